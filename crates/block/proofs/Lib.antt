@@ -1,0 +1,4 @@
+pub mod Bools
+pub mod Computed
+pub mod Laws
+pub mod Refused

@@ -1,0 +1,5 @@
+pub mod Bits
+pub mod Computed
+pub mod Refusals
+pub mod Sizes
+pub mod Checks

@@ -1,0 +1,4 @@
+pub mod Buffers
+pub mod Ordered
+pub mod Runs
+pub mod Steps

@@ -1,0 +1,101 @@
+// The register and the 32 steps that it can make.
+ghost use mathlib.Core.Path.{_≡_};
+ghost use mathlib.Core.Bool.{true};
+ghost use Prim.Native.Nat.{_<_};
+ghost use Rattle.code.specs.Register.{after, cells, cells-of, state-of, cleared, feedback, follows-rule, next, outputs, tail, trace};
+use crate::Outputs;
+use crate::Register;
+use crate::Step;
+use block::bit_of;
+
+// The steps of the register: entry 2 * state + bit is the step from that state at that bit.
+pub const TRELLIS: [Step; 32] = [
+    Step { outputs: Outputs { v1: false, v2: false, v3: false, v4: false }, next: 0 },
+    Step { outputs: Outputs { v1: true, v2: true, v3: true, v4: true }, next: 8 },
+    Step { outputs: Outputs { v1: false, v2: false, v3: false, v4: false }, next: 8 },
+    Step { outputs: Outputs { v1: true, v2: true, v3: true, v4: true }, next: 0 },
+    Step { outputs: Outputs { v1: false, v2: true, v3: true, v4: true }, next: 1 },
+    Step { outputs: Outputs { v1: true, v2: false, v3: false, v4: false }, next: 9 },
+    Step { outputs: Outputs { v1: false, v2: true, v3: true, v4: true }, next: 9 },
+    Step { outputs: Outputs { v1: true, v2: false, v3: false, v4: false }, next: 1 },
+    Step { outputs: Outputs { v1: false, v2: true, v3: false, v4: true }, next: 10 },
+    Step { outputs: Outputs { v1: true, v2: false, v3: true, v4: false }, next: 2 },
+    Step { outputs: Outputs { v1: false, v2: true, v3: false, v4: true }, next: 2 },
+    Step { outputs: Outputs { v1: true, v2: false, v3: true, v4: false }, next: 10 },
+    Step { outputs: Outputs { v1: false, v2: false, v3: true, v4: false }, next: 11 },
+    Step { outputs: Outputs { v1: true, v2: true, v3: false, v4: true }, next: 3 },
+    Step { outputs: Outputs { v1: false, v2: false, v3: true, v4: false }, next: 3 },
+    Step { outputs: Outputs { v1: true, v2: true, v3: false, v4: true }, next: 11 },
+    Step { outputs: Outputs { v1: false, v2: true, v3: true, v4: false }, next: 12 },
+    Step { outputs: Outputs { v1: true, v2: false, v3: false, v4: true }, next: 4 },
+    Step { outputs: Outputs { v1: false, v2: true, v3: true, v4: false }, next: 4 },
+    Step { outputs: Outputs { v1: true, v2: false, v3: false, v4: true }, next: 12 },
+    Step { outputs: Outputs { v1: false, v2: false, v3: false, v4: true }, next: 13 },
+    Step { outputs: Outputs { v1: true, v2: true, v3: true, v4: false }, next: 5 },
+    Step { outputs: Outputs { v1: false, v2: false, v3: false, v4: true }, next: 5 },
+    Step { outputs: Outputs { v1: true, v2: true, v3: true, v4: false }, next: 13 },
+    Step { outputs: Outputs { v1: false, v2: false, v3: true, v4: true }, next: 6 },
+    Step { outputs: Outputs { v1: true, v2: true, v3: false, v4: false }, next: 14 },
+    Step { outputs: Outputs { v1: false, v2: false, v3: true, v4: true }, next: 14 },
+    Step { outputs: Outputs { v1: true, v2: true, v3: false, v4: false }, next: 6 },
+    Step { outputs: Outputs { v1: false, v2: true, v3: false, v4: false }, next: 7 },
+    Step { outputs: Outputs { v1: true, v2: false, v3: true, v4: true }, next: 15 },
+    Step { outputs: Outputs { v1: false, v2: true, v3: false, v4: false }, next: 15 },
+    Step { outputs: Outputs { v1: true, v2: false, v3: true, v4: true }, next: 7 },
+];
+
+// The step from a state at a bit, from a table that follows the register's rule.
+fn step_of(table: &[Step; 32], state: u8, bit: bool) -> Step
+    requires { ⌜ follows-rule (now table) ≡ true ⌝ ∗ ⌜ state < 16 ⌝ }
+    ensures outputs { λ r. ⌜ r .outputs ≡ outputs (cells-of state) bit ⌝ }
+    ensures next { λ r. ⌜ r .next ≡ state-of (next (cells-of state) bit) ⌝ }
+{
+    table[2 * state as usize + bit as usize]
+}
+
+impl Register {
+    pub fn open() -> Register
+        ensures { λ r. ⌜ cells r ≡ cleared ⌝ }
+    {
+        Register { state: 0 }
+    }
+
+    // Takes one bit and answers the four outputs.
+    pub fn push(&mut self, bit: bool) -> Outputs
+        ensures answer { λ r. ⌜ r ≡ outputs (cells (now (self .entry))) bit ⌝ }
+        ensures after { λ _. ⌜ cells (now (self .exit)) ≡ next (cells (now (self .entry))) bit ⌝ }
+    {
+        let step = step_of(&TRELLIS, self.state, bit);
+        self.state = step.next;
+        step.outputs
+    }
+
+    // The bit that the next tail bit would be.
+    fn feedback(&self) -> bool
+        ensures { λ r. ⌜ r ≡ feedback (cells (now (self .entry))) ⌝ }
+    {
+        let state = self.state as u32;
+        bit_of(state, 0) ^ (bit_of(state, 2) ^ bit_of(state, 3))
+    }
+
+    fn push_feedback(&mut self) -> Outputs
+        ensures answer { λ r. ⌜ r ≡ outputs (cells (now (self .entry))) (feedback (cells (now (self .entry)))) ⌝ }
+        ensures after { λ _. ⌜ cells (now (self .exit)) ≡ next (cells (now (self .entry))) (feedback (cells (now (self .entry)))) ⌝ }
+    {
+        let bit = self.feedback();
+        self.push(bit)
+    }
+
+    // Feeds the four tail bits, after which every cell is 0, and answers their outputs. The register is spent.
+    pub fn close(mut self) -> [Outputs; 4]
+        ensures answer { λ r. ⌜ r ≡ trace (cells self) (tail (cells self)) ⌝ }
+        ensures clears { λ _. ⌜ after (cells self) (tail (cells self)) ≡ cleared ⌝ }
+    {
+        let first = self.push_feedback();
+        let second = self.push_feedback();
+        let third = self.push_feedback();
+        let fourth = self.push_feedback();
+        let Register { state: _ } = self;
+        [first, second, third, fourth]
+    }
+}

@@ -1,0 +1,4 @@
+pub mod Hard
+pub mod Levels
+pub mod Scales
+pub mod Symbols
