@@ -5,18 +5,36 @@ use mathlib.Core.List.{List, [], _∷_}
 use mathlib.Core.Logic.{inl, inr}
 use Prim.Native.Nat.{ℕ, zero, suc, _+_, _<_, _≤_, zero-le, suc-le-suc}
 use native.Mathlib.Nat.{not-suc-le-zero, le-of-suc-le-suc}
-use native.Mathlib.Numerals.{add-one}
+use native.Mathlib.Numerals.{add-one, one-add}
 use native.Mathlib.Omega.{arith}
 use lib.Dec.{eqb, ltb}
 use lib.ListN.{length, getD}
 use Rattle.std.proofs.shelf.Tests.{eq-eqb, ne-eqb, eqb-true, ltb-true, lt-ltb, and-parts, and-from, cases-eq, cases-bool}
-use Rattle.code.specs.Columns.{all-below, count-of, each-once, is-order}
+use Rattle.code.specs.Columns.{all-below, count-of, each-once, index-of, is-order}
 
 pub count-here : (a c : ℕ) (cs : List ℕ) → c ≡ a → count-of a (c ∷ cs) ≡ 1 + count-of a cs
 count-here a c cs e = ap (λ b. cond b 1 0 + count-of a cs) (eq-eqb c a e)
 
 pub count-not-here : (a c : ℕ) (cs : List ℕ) → (c ≡ a → ⊥) → count-of a (c ∷ cs) ≡ 0 + count-of a cs
 count-not-here a c cs d = ap (λ b. cond b 1 0 + count-of a cs) (ne-eqb c a d)
+
+pub index-here : (a c : ℕ) (cs : List ℕ) → c ≡ a → index-of a (c ∷ cs) ≡ 0
+index-here a c cs e = ap (λ b. cond b 0 (1 + index-of a cs)) (eq-eqb c a e)
+
+pub index-later : (a c : ℕ) (cs : List ℕ) → (c ≡ a → ⊥) → index-of a (c ∷ cs) ≡ 1 + index-of a cs
+index-later a c cs d = ap (λ b. cond b 0 (1 + index-of a cs)) (ne-eqb c a d)
+
+-- a column that is counted stands at its index
+pub counted-index : (a : ℕ) (cs : List ℕ) → 0 < count-of a cs → (index-of a cs < length cs) × (getD cs (index-of a cs) 0 ≡ a)
+counted-index a [] h = absurd (not-suc-le-zero h)
+counted-index a (c ∷ cs) h =
+    elim (cases-eq c a) [
+      inl e ↦ (omega (arith, index-here a c cs e), ap (λ i. getD (c ∷ cs) i 0) (index-here a c cs e) ∙ e)
+    | inr d ↦
+        let later = index-later a c cs d in
+        let rest = counted-index a cs (omega (arith, count-not-here a c cs d)) in
+        (omega (arith, later, rest .0), ap (λ i. getD (c ∷ cs) i 0) (later ∙ one-add (index-of a cs)) ∙ rest .1)
+    ]
 
 pub each-once-more : (n : ℕ) (cs : List ℕ) → each-once n cs ≡ true → count-of n cs ≡ 1 → each-once (n + 1) cs ≡ true
 each-once-more n cs all one = ap (λ m. each-once m cs) (add-one n) ∙ and-from _ _ (eq-eqb _ _ one) all
@@ -66,3 +84,9 @@ module _ (cs : List ℕ) (h : is-order cs ≡ true) where
 
   pub order-once : (a : ℕ) → a < 24 → count-of a cs ≡ 1
   order-once = each-once-at 24 cs (and-parts _ (each-once 24 cs) (parts .1) .1)
+
+  -- each column stands at an index below 24
+  pub order-index : (a : ℕ) → a < 24 → (index-of a cs < 24) × (getD cs (index-of a cs) 0 ≡ a)
+  order-index a l =
+      let found = counted-index a cs (omega (arith, order-once a l)) in
+      (omega (arith, found .0, order-length), found .1)

@@ -86,3 +86,7 @@ block-noted message m closed steps t n d noted cells tails end within =
     let full : (xs : List Outputs) → List Outputs = λ xs. set (set (set (set steps t (getD xs 0 d)) (t + 1) (getD xs 1 d)) (t + 2) (getD xs 2 d)) (t + 3) (getD xs 3 d) in
     ap (λ k. take k (full closed)) (sym end) ∙ ap (λ xs. take (t + 4) (full xs)) tails ∙ four-noted steps t _ _ _ _ within
     ∙ (λ i. noted i ++ trace (cells i) (tail (cells i))) ∙ sym (trace-append cleared message (tail (after cleared message)))
+
+pub after-append : (m : Cells) (us vs : List Bool) → after m (us ++ vs) ≡ after (after m us) vs
+after-append m [] vs = refl
+after-append m (u ∷ us) vs = after-append (next m u) us vs

@@ -1,8 +1,8 @@
 -- The rule of the table of steps, by one test that is computed over all of them. Assumes nothing.
 use mathlib.Core.Path.{_≡_, refl}
-use mathlib.Core.Bool.{Bool, true, false, _&&_}
+use mathlib.Core.Bool.{Bool, true, false, _&&_, Bool·beq}
 use mathlib.Core.List.{List}
-use Prim.Native.Nat.{ℕ, _+_, _*_, _<_}
+use Prim.Native.Nat.{ℕ, _+_, _*_, _%_, _<_}
 use lib.Dec.{eqb}
 use lib.ListN.{getD}
 use mir.Val.{boolByte}
@@ -58,3 +58,23 @@ from-number true true true true = refl
 
 pub cells-state : (m : Cells) → cells-of (state-of m) ≡ m
 cells-state m = from-number (m .m1) (m .m2) (m .m3) (m .m4)
+
+same-cells : Cells → Cells → Bool
+same-cells x y = Bool·beq (x .m1) (y .m1) && (Bool·beq (x .m2) (y .m2) && (Bool·beq (x .m3) (y .m3) && Bool·beq (x .m4) (y .m4)))
+
+same-cells-is : (x y : Cells) → same-cells x y ≡ true → x ≡ y
+unfolding same-cells
+same-cells-is x y e =
+    let a = and-parts _ _ e in
+    let b = and-parts _ _ (a .1) in
+    let c = and-parts _ _ (b .1) in
+    let p = same-is _ _ (a .0) in
+    let q = same-is _ _ (b .0) in
+    let r = same-is _ _ (c .0) in
+    let s = same-is _ _ (c .1) in
+    λ i. record { m1 = p i; m2 = q i; m3 = r i; m4 = s i }
+
+-- the cells of an octet are those of its low four bits
+pub low-cells : (s : ℕ) → s < 256 → cells-of (s % 16) ≡ cells-of s
+unfolding same-cells
+low-cells s h = same-cells-is _ _ (below 256 (λ k. same-cells (cells-of (k % 16)) (cells-of k)) refl s h)

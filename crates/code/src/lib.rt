@@ -11,6 +11,8 @@ mod trellis;
 
 pub use encode::encode_report;
 pub use peek::peek_report;
+pub use trellis::feedback;
+pub use trellis::step_from;
 use block::SizeRefusal;
 use block::SizeRefusalDebug;
 use block::SizeRefusalPartialEq;

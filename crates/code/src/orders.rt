@@ -3,7 +3,7 @@ ghost use mathlib.Core.Path.{_≡_};
 ghost use mathlib.Core.Bool.{true};
 ghost use lib.ListN.{length};
 ghost use Rattle.block.specs.Refusals.{Answers};
-ghost use Rattle.code.specs.Columns.{all-below, count-of, each-once, follows-masks, is-order, order-R};
+ghost use Rattle.code.specs.Columns.{all-below, count-of, each-once, follows-masks, index-of, is-order, order-R};
 ghost use Rattle.code.specs.Refused.{order-checks, order-number};
 use crate::Order;
 use crate::OrderRefusal;
@@ -94,5 +94,17 @@ impl Order {
         let mut columns = [0; 24];
         columns.copy_from_slice(numbers);
         Ok(Order { columns })
+    }
+
+    // The index at which a column stands; behind the last where there is no such column.
+    pub fn index_of(&self, column: u8) -> usize
+        ensures { λ r. ⌜ r ≡ index-of column (now (self .entry) .columns) ⌝ }
+    {
+        for (i, x) in self.columns.iter().enumerate() {
+            if *x == column {
+                return i;
+            }
+        }
+        24
     }
 }

@@ -2,7 +2,7 @@
 ghost use mathlib.Core.Path.{_≡_};
 ghost use mathlib.Core.Bool.{true};
 ghost use Prim.Native.Nat.{_<_};
-ghost use Rattle.code.specs.Register.{after, cells, cells-of, state-of, cleared, feedback, follows-rule, next, outputs, tail, trace};
+ghost use Rattle.code.specs.Register.{after, cells, cells-of, state-of, cleared, feedback as feed, follows-rule, next, outputs, tail, trace};
 use crate::Outputs;
 use crate::Register;
 use crate::Step;
@@ -53,6 +53,22 @@ fn step_of(table: &[Step; 32], state: u8, bit: bool) -> Step
     table[2 * state as usize + bit as usize]
 }
 
+// The register's step from a state, which is its low four bits, at a bit.
+pub fn step_from(state: u8, bit: bool) -> Step
+    ensures outputs { λ r. ⌜ r .outputs ≡ outputs (cells-of state) bit ⌝ }
+    ensures next { λ r. ⌜ r .next ≡ state-of (next (cells-of state) bit) ⌝ }
+{
+    step_of(&TRELLIS, state % 16, bit)
+}
+
+// The feedback of a state, which is its low four bits.
+pub fn feedback(state: u8) -> bool
+    ensures { λ r. ⌜ r ≡ feed (cells-of state) ⌝ }
+{
+    let state = state as u32;
+    bit_of(state, 0) ^ (bit_of(state, 2) ^ bit_of(state, 3))
+}
+
 impl Register {
     pub fn open() -> Register
         ensures { λ r. ⌜ cells r ≡ cleared ⌝ }
@@ -70,19 +86,11 @@ impl Register {
         step.outputs
     }
 
-    // The bit that the next tail bit would be.
-    fn feedback(&self) -> bool
-        ensures { λ r. ⌜ r ≡ feedback (cells (now (self .entry))) ⌝ }
-    {
-        let state = self.state as u32;
-        bit_of(state, 0) ^ (bit_of(state, 2) ^ bit_of(state, 3))
-    }
-
     fn push_feedback(&mut self) -> Outputs
-        ensures answer { λ r. ⌜ r ≡ outputs (cells (now (self .entry))) (feedback (cells (now (self .entry)))) ⌝ }
-        ensures after { λ _. ⌜ cells (now (self .exit)) ≡ next (cells (now (self .entry))) (feedback (cells (now (self .entry)))) ⌝ }
+        ensures answer { λ r. ⌜ r ≡ outputs (cells (now (self .entry))) (feed (cells (now (self .entry)))) ⌝ }
+        ensures after { λ _. ⌜ cells (now (self .exit)) ≡ next (cells (now (self .entry))) (feed (cells (now (self .entry)))) ⌝ }
     {
-        let bit = self.feedback();
+        let bit = feedback(self.state);
         self.push(bit)
     }
 

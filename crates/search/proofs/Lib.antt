@@ -1,0 +1,11 @@
+pub mod Trellis
+pub mod Orders
+pub mod Bests
+pub mod Bridge
+pub mod Placing
+pub mod Bools
+pub mod Words
+pub mod Settling
+pub mod Finish
+pub mod Traces
+pub mod Naming
