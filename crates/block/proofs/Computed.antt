@@ -12,6 +12,6 @@ pub below : (n : ℕ) (f : ℕ → Bool) → passes n f ≡ true → (k : ℕ) �
 below zero f t k h = absurd (not-suc-le-zero h)
 below (suc n) f t k h =
     elim (cases-eq n k) [
-      inl e ↦ subst (λ (m : ℕ). f m ≡ true) e (and-parts (f n) (passes n f) t .0)
-    | inr d ↦ below n f (and-parts (f n) (passes n f) t .1) k (omega arith)
+      | inl e ↦ subst (λ (m : ℕ). f m ≡ true) e (and-parts (f n) (passes n f) t .0)
+      | inr d ↦ below n f (and-parts (f n) (passes n f) t .1) k (omega arith)
     ]

@@ -43,8 +43,8 @@ no-quotient x k e =
 polynomial-top : (check : ℕ) → check % 8 ≡ 4 → check < 32 → polynomial check / 2 ^ check ≡ 1
 polynomial-top check r h =
     elim (or-cases _ _ (below 32 (λ k. not (eqb (k % 8) 4) || eqb (polynomial k / 2 ^ k) 1) refl check h)) [
-      inl n ↦ absurd (eqb-false _ _ (not-true _ n) r)
-    | inr e ↦ eqb-true _ _ e
+      | inl n ↦ absurd (eqb-false _ _ (not-true _ n) r)
+      | inr e ↦ eqb-true _ _ e
     ]
 
 -- what is left of a sum of degree at most L has a degree below L
@@ -53,8 +53,8 @@ reduced-below check p r h b =
     let q : p / 2 ^ check < 2 ^ 1 = shr-below p 1 check b in
     cond-both (bit check p) (bitXor p (polynomial check)) p (λ x. x < 2 ^ check)
     (λ e.
-        let one : p / 2 ^ check ≡ 1 = omega (arith, eqb-true _ _ e) in
-        no-quotient _ check (xor-shr p (polynomial check) check ∙ ap (λ n. bitXor n (polynomial check / 2 ^ check)) one ∙ ap (bitXor 1) (polynomial-top check r h)))
+    let one : p / 2 ^ check ≡ 1 = omega (arith, eqb-true _ _ e) in
+    no-quotient _ check (xor-shr p (polynomial check) check ∙ ap (λ n. bitXor n (polynomial check / 2 ^ check)) one ∙ ap (bitXor 1) (polynomial-top check r h)))
     (λ e. no-quotient p check (omega (arith, eqb-false _ _ e)))
 
 -- one more bit leaves a check of degree below L
@@ -76,10 +76,10 @@ payload-grows a b check k h =
 pub payload-alone : (a b check k : ℕ) → payload a check k ≡ payload b check k → a ≡ b
 payload-alone a b check k e =
     elim (cases-order a b) [
-      inl same ↦ same
-    | inr apart ↦ elim apart [
-        inl less ↦ absurd (let g = payload-grows a b check k less in omega arith)
-      | inr more ↦ absurd (let g = payload-grows b a check k more in omega arith)
+      | inl same ↦ same
+      | inr apart ↦ elim apart [
+        | inl less ↦ absurd (let g = payload-grows a b check k less in omega arith)
+        | inr more ↦ absurd (let g = payload-grows b a check k more in omega arith)
       ]
     ]
 
@@ -89,8 +89,8 @@ unfolding some-size
 some-size-at zero t p check k low high e = absurd (omega arith)
 some-size-at (suc n) t p check k low high e =
     elim (cases-eq t (suc n)) [
-      inl same ↦ or-left _ _ (eq-eqb _ _ (sym (ap (λ m. payload m check k) same) ∙ e))
-    | inr other ↦ or-right _ _ (some-size-at n t p check k low (omega arith) e)
+      | inl same ↦ or-left _ _ (eq-eqb _ _ (sym (ap (λ m. payload m check k) same) ∙ e))
+      | inr other ↦ or-right _ _ (some-size-at n t p check k low (omega arith) e)
     ]
 
 -- one further length that has another payload

@@ -53,7 +53,7 @@ bit-at-octets f n rest p h =
     let inside : p / 8 < n = omega arith in
     let long = length-map-counting g 0 n in
     let there : getD (octets-of f n ++ rest) (p / 8) 0 ≡ g (p / 8) =
-        getD-append-left (octets-of f n) rest 0 (p / 8) (omega (arith, long)) ∙ getD-map-counting g 0 n (p / 8) (p / 8) 0 inside (omega arith) in
+    getD-append-left (octets-of f n) rest 0 (p / 8) (omega (arith, long)) ∙ getD-map-counting g 0 n (p / 8) (p / 8) 0 inside (omega arith) in
     let split : 8 * (p / 8) + p % 8 ≡ p = omega arith in
     ap (bit (p % 8)) there ∙ bit-octet (λ i. f (8 * (p / 8) + i)) (p % 8) (omega arith) ∙ ap f split
 

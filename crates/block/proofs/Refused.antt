@@ -20,15 +20,15 @@ pub all-passed : (xs ys : List Check) → first-refusal xs ≡ None → first-re
 all-passed [] ys e = refl
 all-passed (x ∷ xs) ys e = go (x .refuses) (all-passed xs ys) e
   where
-  go : (b : Bool) → (first-refusal xs ≡ None → first-refusal (xs ++ ys) ≡ first-refusal ys) → cond b (Some (x .number)) (first-refusal xs) ≡ None → cond b (Some (x .number)) (first-refusal (xs ++ ys)) ≡ first-refusal ys
-  go true rest h = absurd (let z : _≡_ {A = ℕ} 0 1 = cc in omega arith)
-  go false rest h = rest h
+    go : (b : Bool) → (first-refusal xs ≡ None → first-refusal (xs ++ ys) ≡ first-refusal ys) → cond b (Some (x .number)) (first-refusal xs) ≡ None → cond b (Some (x .number)) (first-refusal (xs ++ ys)) ≡ first-refusal ys
+    go true rest h = absurd (let z : _≡_ {A = ℕ} 0 1 = cc in omega arith)
+    go false rest h = rest h
 
 -- where the first row refuses, it decides
 pub one-refused : (xs ys : List Check) (n : ℕ) → first-refusal xs ≡ Some n → first-refusal (xs ++ ys) ≡ Some n
 one-refused [] ys n e = absurd (let z : _≡_ {A = ℕ} 0 1 = cc in omega arith)
 one-refused (x ∷ xs) ys n e = go (x .refuses) (one-refused xs ys n) e
   where
-  go : (b : Bool) → (first-refusal xs ≡ Some n → first-refusal (xs ++ ys) ≡ Some n) → cond b (Some (x .number)) (first-refusal xs) ≡ Some n → cond b (Some (x .number)) (first-refusal (xs ++ ys)) ≡ Some n
-  go true rest h = h
-  go false rest h = rest h
+    go : (b : Bool) → (first-refusal xs ≡ Some n → first-refusal (xs ++ ys) ≡ Some n) → cond b (Some (x .number)) (first-refusal xs) ≡ Some n → cond b (Some (x .number)) (first-refusal (xs ++ ys)) ≡ Some n
+    go true rest h = h
+    go false rest h = rest h

@@ -29,11 +29,11 @@ pub counted-index : (a : ℕ) (cs : List ℕ) → 0 < count-of a cs → (index-o
 counted-index a [] h = absurd (not-suc-le-zero h)
 counted-index a (c ∷ cs) h =
     elim (cases-eq c a) [
-      inl e ↦ (omega (arith, index-here a c cs e), ap (λ i. getD (c ∷ cs) i 0) (index-here a c cs e) ∙ e)
-    | inr d ↦
-        let later = index-later a c cs d in
-        let rest = counted-index a cs (omega (arith, count-not-here a c cs d)) in
-        (omega (arith, later, rest .0), ap (λ i. getD (c ∷ cs) i 0) (later ∙ one-add (index-of a cs)) ∙ rest .1)
+      | inl e ↦ (omega (arith, index-here a c cs e), ap (λ i. getD (c ∷ cs) i 0) (index-here a c cs e) ∙ e)
+      | inr d ↦
+          let later = index-later a c cs d in
+          let rest = counted-index a cs (omega (arith, count-not-here a c cs d)) in
+          (omega (arith, later, rest .0), ap (λ i. getD (c ∷ cs) i 0) (later ∙ one-add (index-of a cs)) ∙ rest .1)
     ]
 
 pub each-once-more : (n : ℕ) (cs : List ℕ) → each-once n cs ≡ true → count-of n cs ≡ 1 → each-once (n + 1) cs ≡ true
@@ -44,8 +44,8 @@ each-once-at zero cs all a h = absurd (not-suc-le-zero h)
 each-once-at (suc n) cs all a h =
     let parts = and-parts (eqb (count-of n cs) 1) (each-once n cs) all in
     elim (cases-eq n a) [
-      inl e ↦ sym (ap (λ m. count-of m cs) e) ∙ eqb-true _ _ (parts .0)
-    | inr d ↦ each-once-at n cs (parts .1) a (omega arith)
+      | inl e ↦ sym (ap (λ m. count-of m cs) e) ∙ eqb-true _ _ (parts .0)
+      | inr d ↦ each-once-at n cs (parts .1) a (omega arith)
     ]
 
 pub all-below-more : (n c : ℕ) (cs : List ℕ) → all-below n (c ∷ cs) ≡ true → (c < n) × (all-below n cs ≡ true)
@@ -66,8 +66,8 @@ all-below-since n (c ∷ cs) each =
 pub all-below-not : (n : ℕ) (cs : List ℕ) (i : ℕ) → i < length cs → n ≤ getD cs i 0 → false ≡ all-below n cs
 all-below-not n cs i h big =
     elim (cases-bool (all-below n cs)) [
-      inl all ↦ absurd (let small = all-below-at n cs all i h in omega arith)
-    | inr not ↦ sym not
+      | inl all ↦ absurd (let small = all-below-at n cs all i h in omega arith)
+      | inr not ↦ sym not
     ]
 
 -- an order has 24 columns, each below 24, and each number below 24 once

@@ -43,19 +43,19 @@ pub record Noted (m : Cells) (bits : List Bool) (steps : List Outputs) (t : ℕ)
   pub cells-are : now ≡ after m bits
 
 pub noted-more : (m : Cells) (f : ℕ → Bool) (steps : List Outputs) (t : ℕ) (now then : Cells) (u : Bool) (y : Outputs)
-  → t < length steps → Noted m (first f t) steps t now → u ≡ f t → y ≡ outputs now u → then ≡ next now u
-  → Noted m (first f (t + 1)) (set steps t y) (t + 1) then
+    → t < length steps → Noted m (first f t) steps t now → u ≡ f t → y ≡ outputs now u → then ≡ next now u
+    → Noted m (first f (t + 1)) (set steps t y) (t + 1) then
 noted-more m f steps t now then u y within before bit answer moved = record {
   steps-are =
-    take-more-set steps t y within ∙ ap (λ xs. xs ++ y ∷ []) (before .steps-are)
-    ∙ ap (λ x. trace m (first f t) ++ x ∷ []) (answer ∙ (λ i. outputs (before .cells-are i) (bit i)))
-    ∙ sym (trace-more m f t);
+      take-more-set steps t y within ∙ ap (λ xs. xs ++ y ∷ []) (before .steps-are)
+      ∙ ap (λ x. trace m (first f t) ++ x ∷ []) (answer ∙ (λ i. outputs (before .cells-are i) (bit i)))
+      ∙ sym (trace-more m f t);
   cells-are = moved ∙ (λ i. next (before .cells-are i) (bit i)) ∙ sym (after-more m f t);
 }
 
 -- four outputs noted behind the first t
 pub four-noted : (steps : List Outputs) (t : ℕ) (a b c d : Outputs) → t + 3 < length steps
-  → take (t + 4) (set (set (set (set steps t a) (t + 1) b) (t + 2) c) (t + 3) d) ≡ take t steps ++ (a ∷ b ∷ c ∷ d ∷ [])
+    → take (t + 4) (set (set (set (set steps t a) (t + 1) b) (t + 2) c) (t + 3) d) ≡ take t steps ++ (a ∷ b ∷ c ∷ d ∷ [])
 four-noted steps t a b c d h =
     let one = set steps t a in
     let two = set one (t + 1) b in
@@ -68,20 +68,23 @@ four-noted steps t a b c d h =
     let s3 : take (t + 3) three ≡ take (t + 2) two ++ c ∷ [] = ap (λ n. take n three) up2 ∙ take-more-set two (t + 2) c (omega arith) in
     let s4 : take (t + 4) (set three (t + 3) d) ≡ take (t + 3) three ++ d ∷ [] = ap (λ n. take n (set three (t + 3) d)) up3 ∙ take-more-set three (t + 3) d (omega arith) in
     s4 ∙ ap (λ xs. xs ++ d ∷ []) (s3 ∙ ap (λ xs. xs ++ c ∷ []) (s2 ∙ ap (λ xs. xs ++ b ∷ []) s1)) ∙ joined
-    where
+  where
     up1 : t + 2 ≡ t + 1 + 1
     up1 = omega arith
+
     up2 : t + 3 ≡ t + 2 + 1
     up2 = omega arith
+
     up3 : t + 4 ≡ t + 3 + 1
     up3 = omega arith
+
     joined : (((take t steps ++ a ∷ []) ++ b ∷ []) ++ c ∷ []) ++ d ∷ [] ≡ take t steps ++ (a ∷ b ∷ c ∷ d ∷ [])
     joined = simp append-assoc
 
 -- a message's steps, and then the four of its tail, are all steps of its block
 pub block-noted : (message : List Bool) (m : Cells) (closed steps : List Outputs) (t n : ℕ) (d : Outputs)
-  → take t steps ≡ trace cleared message → m ≡ after cleared message → closed ≡ trace m (tail m) → t + 4 ≡ n → t + 3 < length steps
-  → take n (set (set (set (set steps t (getD closed 0 d)) (t + 1) (getD closed 1 d)) (t + 2) (getD closed 2 d)) (t + 3) (getD closed 3 d)) ≡ coded message
+    → take t steps ≡ trace cleared message → m ≡ after cleared message → closed ≡ trace m (tail m) → t + 4 ≡ n → t + 3 < length steps
+    → take n (set (set (set (set steps t (getD closed 0 d)) (t + 1) (getD closed 1 d)) (t + 2) (getD closed 2 d)) (t + 3) (getD closed 3 d)) ≡ coded message
 block-noted message m closed steps t n d noted cells tails end within =
     let full : (xs : List Outputs) → List Outputs = λ xs. set (set (set (set steps t (getD xs 0 d)) (t + 1) (getD xs 1 d)) (t + 2) (getD xs 2 d)) (t + 3) (getD xs 3 d) in
     ap (λ k. take k (full closed)) (sym end) ∙ ap (λ xs. take (t + 4) (full xs)) tails ∙ four-noted steps t _ _ _ _ within

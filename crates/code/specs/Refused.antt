@@ -66,6 +66,6 @@ abbrev pub Peek-does : List ℕ → ℕ → ℕ → List ℕ → List ℕ → Re
 Peek-does received octets check before after r =
     Performs (peek-checks octets check (length received) (length before)) peek-number
     (λ p. Decides (p .«check_fits») (Check-fits octets check (bits-of received (8 * octets + check)))
-        × Decides (p .«tail_fits») (Tail-fits received (8 * octets + check))
-        × (after ≡ take octets received ++ drop octets before))
+    × Decides (p .«tail_fits») (Tail-fits received (8 * octets + check))
+    × (after ≡ take octets received ++ drop octets before))
     (after ≡ before) r

@@ -12,7 +12,6 @@ use Rattle.code.specs.declared.Register.{Register}
 use Rattle.code.specs.declared.Step.{Step}
 
 infixr 65 _⊕_
-
 -- the sum modulo 2
 abbrev pub _⊕_ : Bool → Bool → Bool
 true ⊕ b = not b

@@ -127,7 +127,12 @@ fn fill(order: &Order, n: usize, steps: &[Outputs], buffer: &mut [u8])
 }
 
 // Encodes a report into the first 4 * N octets of the buffer.
-pub fn encode_report(report: &[u8], check: usize, order: &Order, buffer: &mut [u8]) -> Result<(), EncodeRefusal>
+pub fn encode_report(
+    report: &[u8],
+    check: usize,
+    order: &Order,
+    buffer: &mut [u8],
+) -> Result<(), EncodeRefusal>
     ensures { λ r. ⌜ Encode-does (now (report .entry)) check (now (order .entry) .columns) (now (buffer .entry)) (now (buffer .exit)) r ⌝ }
 {
     let size = match Size::new(report.len(), check) {

@@ -7,15 +7,16 @@ ghost use Rattle.code.specs.Columns.{is-order};
 mod encode;
 mod orders;
 mod peek;
+mod table;
 mod trellis;
 
+use block::SizeRefusal;
+use block::SizeRefusalDebug;
+use block::SizeRefusalPartialEq;
 pub use encode::encode_report;
 pub use peek::peek_report;
 pub use trellis::feedback;
 pub use trellis::step_from;
-use block::SizeRefusal;
-use block::SizeRefusalDebug;
-use block::SizeRefusalPartialEq;
 
 // What the register answers to one bit: the outputs 1 to 4.
 #[derive(Clone, Copy, Debug, PartialEq)]

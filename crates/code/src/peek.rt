@@ -59,7 +59,12 @@ fn copy_front(from: &[u8], to: &mut [u8], count: usize)
 }
 
 // Writes the report's octets as they came, and tells whether check and tail fit.
-pub fn peek_report(received: &[u8], octets: usize, check: usize, target: &mut [u8]) -> Result<Peeked, PeekRefusal>
+pub fn peek_report(
+    received: &[u8],
+    octets: usize,
+    check: usize,
+    target: &mut [u8],
+) -> Result<Peeked, PeekRefusal>
     ensures { λ r. ⌜ Peek-does (now (received .entry)) octets check (now (target .entry)) (now (target .exit)) r ⌝ }
 {
     let size = match Size::new(octets, check) {

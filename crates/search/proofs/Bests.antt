@@ -26,21 +26,22 @@ module _ {V : Type 0} (s : Scale V) (order : List ℕ) (n : ℕ) (sums : Sums s)
     held = λ k h. start-held k h;
   }
     where
-    first : meant s paths 0 ≡ Some (s .zero)
-    first = ap (mapped (s .mean)) here ∙ ap Some zero-is
-    start-every : (us : List Bool) → length us ≡ 0 → Lighter s (meant s paths (state-of (ends us))) (Some (path-weight s order n sums us))
-    start-every [] e = subst (λ x. Lighter s x (Some (s .zero))) (sym first) (reflexive s (s .zero))
-    start-every (u ∷ us) e = absurd (omega arith)
-    start-held : (k : ℕ) → k < 16 → Cases (meant s paths k) (Unit {0}) (λ w. (state-of (ends (origin survivors 0 k)) ≡ k) × (w ≡ path-weight s order n sums (origin survivors 0 k)))
-    start-held zero h = subst (λ x. Cases x (Unit {0}) (λ w. (_≡_ {A = ℕ} 0 0) × (w ≡ s .zero))) (sym first) (refl, refl)
-    start-held (suc k) h = subst (λ x. Cases x (Unit {0}) (λ w. (0 ≡ suc k) × (w ≡ s .zero))) (sym (ap (mapped (s .mean)) (others (suc k) h (λ e. omega arith)))) tt
+      first : meant s paths 0 ≡ Some (s .zero)
+      first = ap (mapped (s .mean)) here ∙ ap Some zero-is
+
+      start-every : (us : List Bool) → length us ≡ 0 → Lighter s (meant s paths (state-of (ends us))) (Some (path-weight s order n sums us))
+      start-every [] e = subst (λ x. Lighter s x (Some (s .zero))) (sym first) (reflexive s (s .zero))
+      start-every (u ∷ us) e = absurd (omega arith)
+
+      start-held : (k : ℕ) → k < 16 → Cases (meant s paths k) (Unit {0}) (λ w. (state-of (ends (origin survivors 0 k)) ≡ k) × (w ≡ path-weight s order n sums (origin survivors 0 k)))
+      start-held zero h = subst (λ x. Cases x (Unit {0}) (λ w. (_≡_ {A = ℕ} 0 0) × (w ≡ s .zero))) (sym first) (refl, refl)
+      start-held (suc k) h = subst (λ x. Cases x (Unit {0}) (λ w. (0 ≡ suc k) × (w ≡ s .zero))) (sym (ap (mapped (s .mean)) (others (suc k) h (λ e. omega arith)))) tt
 
   module _ (survivors kept : List ℕ) (paths new : List (Option V)) (t word : ℕ)
-    (best : Best s order n sums survivors paths t)
-    (same : (k : ℕ) → k < t → getD kept k 0 ≡ getD survivors k 0)
-    (noted : getD kept t 0 ≡ word)
-    (settled : (k : ℕ) → k < 16 → Settled s (step-weight s order n sums t) paths (meant s new k) (bit k word) k) where
-
+      (best : Best s order n sums survivors paths t)
+      (same : (k : ℕ) → k < t → getD kept k 0 ≡ getD survivors k 0)
+      (noted : getD kept t 0 ≡ word)
+      (settled : (k : ℕ) → k < 16 → Settled s (step-weight s order n sums t) paths (meant s new k) (bit k word) k) where
     is-through : (k : ℕ) → k < 16 → meant s new k ≡ behind s (meant s paths (predecessor (bit k word) k)) (step-weight s order n sums t (outputs (cells-of (predecessor (bit k word) k)) (input (predecessor (bit k word) k) k)))
     unfolding through
     is-through k h = settled k h .is
@@ -56,13 +57,12 @@ module _ {V : Type 0} (s : Scale V) (order : List ℕ) (n : ℕ) (sums : Sums s)
 
     -- one bit more behind the path to a predecessor
     extend : (p k : ℕ) (x : Option (s .Meaning)) (odd : Bool) → predecessor odd k ≡ p → k < 16 → (before : List Bool) → length before ≡ t
-      → Cases x (Unit {0}) (λ w. (state-of (ends before) ≡ p) × (w ≡ path-weight s order n sums before))
-      → Cases (behind s x (step-weight s order n sums t (outputs (cells-of p) (input p k)))) (Unit {0})
+        → Cases x (Unit {0}) (λ w. (state-of (ends before) ≡ p) × (w ≡ path-weight s order n sums before))
+        → Cases (behind s x (step-weight s order n sums t (outputs (cells-of p) (input p k)))) (Unit {0})
         (λ w. (state-of (ends (input p k ∷ before)) ≡ k) × (w ≡ path-weight s order n sums (input p k ∷ before)))
     extend p k None odd is h before long held = tt
     extend p k (Some w) odd is h before long held =
-        let cells : cells-of p ≡ ends before = ap cells-of (sym (held .0)) ∙ cells-state (ends before) in
-        (
+        let cells : cells-of p ≡ ends before = ap cells-of (sym (held .0)) ∙ cells-state (ends before) in (
           sym (ap (λ m. state-of (next m (input p k))) cells) ∙ subst (λ q. state-of (next (cells-of q) (input q k)) ≡ k) is (leads odd k h),
           (λ i. s .plus (held .1 i) (step-weight s order n sums (sym long i) (outputs (cells i) (input p k)))),
         )
@@ -80,17 +80,17 @@ module _ {V : Type 0} (s : Scale V) (order : List ℕ) (n : ℕ) (sums : Sums s)
         lighter-trans s (meant s new k) (behind s (meant s paths (state-of m)) c) (Some (path-weight s order n sums (u ∷ us)))
         (subst (Lighter s (meant s new k)) route (settled k (state-small (next m u)) .least odd))
         (subst (λ l. Lighter s (behind s (meant s paths (state-of m)) c) (Some (s .plus (path-weight s order n sums us) (step-weight s order n sums l (outputs m u))))) (sym long)
-          (lighter-behind s (meant s paths (state-of m)) (Some (path-weight s order n sums us)) c (best .every us long)))
+        (lighter-behind s (meant s paths (state-of m)) (Some (path-weight s order n sums us)) c (best .every us long)))
 
     step-held : (k : ℕ) → k < 16 → Cases (meant s new k) (Unit {0}) (λ w. (state-of (ends (origin kept (suc t) k)) ≡ k) × (w ≡ path-weight s order n sums (origin kept (suc t) k)))
     step-held k h =
         let p = predecessor (bit k word) k in
         let before = origin survivors t p in
         let given : origin kept (suc t) k ≡ input p k ∷ before =
-            ap (λ w. input (predecessor (bit k w) k) k ∷ origin kept t (predecessor (bit k w) k)) noted ∙ ap (λ rest. input p k ∷ rest) (origin-same kept survivors t p same) in
+        ap (λ w. input (predecessor (bit k w) k) k ∷ origin kept t (predecessor (bit k w) k)) noted ∙ ap (λ rest. input p k ∷ rest) (origin-same kept survivors t p same) in
         subst (λ us. Cases (meant s new k) (Unit {0}) (λ w. (state-of (ends us) ≡ k) × (w ≡ path-weight s order n sums us))) (sym given)
         (subst (λ x. Cases x (Unit {0}) (λ w. (state-of (ends (input p k ∷ before)) ≡ k) × (w ≡ path-weight s order n sums (input p k ∷ before)))) (sym (is-through k h))
-          (extend p k (meant s paths p) (bit k word) refl h before (origin-length survivors t p) (best .held p (predecessor-small (bit k word) k))))
+        (extend p k (meant s paths p) (bit k word) refl h before (origin-length survivors t p) (best .held p (predecessor-small (bit k word) k))))
 
     pub best-more : Best s order n sums kept new (suc t)
     best-more = record { every = step-every; held = step-held }

@@ -45,8 +45,7 @@ closes m (a ∷ b ∷ []) l e = absurd (omega arith)
 closes m (a ∷ b ∷ c ∷ []) l e = absurd (omega arith)
 closes m (a ∷ b ∷ c ∷ d ∷ x ∷ us) l e = absurd (omega arith)
 closes m (a ∷ b ∷ c ∷ d ∷ []) l e =
-    is-closing m (a ∷ b ∷ c ∷ d ∷ [])
-    (
+    is-closing m (a ∷ b ∷ c ∷ d ∷ []) (
       sum-false a _ (ap (λ (x : Cells). x .m4) e),
       (sum-false b _ (ap (λ (x : Cells). x .m3) e), (sum-false c _ (ap (λ (x : Cells). x .m2) e), (sum-false d _ (ap (λ (x : Cells). x .m1) e), tt))),
     )

@@ -29,8 +29,7 @@ path-length : (bits : ℕ) (message : List Bool) → length message ≡ bits →
 path-length bits message e = length-reverse (with-tail message) ∙ with-tail-length message ∙ ap (λ x. x + 4) e
 
 module _ {V : Type 0} (s : Scale V) (order : List ℕ) (n : ℕ) (sums : Sums s) (survivors : List ℕ) (paths : List (Option V)) (bits : ℕ)
-  (best : Best s order n sums survivors paths (bits + 4)) where
-
+    (best : Best s order n sums survivors paths (bits + 4)) where
   -- each message is at least as heavy as the path weight of state 0
   least : (other : List Bool) → length other ≡ bits → Lighter s (meant s paths 0) (Some (weight s order n sums other))
   least other e =

@@ -27,11 +27,11 @@ read-back all n bits rest after within long is =
     (λ k h. getD-take bits all k false h ∙ sym (ap (λ xs. bit-at xs k) is ∙ bit-at-filled all n rest k (omega arith)))
 
 pub names-since : {V : Type 0} (s : Scale V) (octets check : ℕ) (order : List ℕ) (sums : Sums s) (before after survivors : List ℕ) (found : Found V) (n : ℕ)
-  → n ≡ block-octets octets check → 8 * octets + check + 4 ≡ 8 * n
-  → after ≡ filled (reverse (origin survivors (8 * n) 0)) n ++ drop n before
-  → Traced s order n sums survivors (8 * octets + check) (s .mean (found .weight))
-  → Decides (found .«check_fits») (Check-fits octets check (bits-of after (8 * octets + check)))
-  → Names s octets check order sums before after found
+    → n ≡ block-octets octets check → 8 * octets + check + 4 ≡ 8 * n
+    → after ≡ filled (reverse (origin survivors (8 * n) 0)) n ++ drop n before
+    → Traced s order n sums survivors (8 * octets + check) (s .mean (found .weight))
+    → Decides (found .«check_fits») (Check-fits octets check (bits-of after (8 * octets + check)))
+    → Names s octets check order sums before after found
 names-since s octets check order sums before after survivors found n size whole written traced verdict =
     let bits = 8 * octets + check in
     let all = reverse (origin survivors (bits + 4) 0) in
@@ -40,8 +40,8 @@ names-since s octets check order sums before after survivors found n size whole 
     let message : take bits all ≡ bits-of after bits = read-back all n bits (drop n before) after (omega arith) (omega arith) is in
     record {
       written =
-        is ∙ ap (λ xs. filled xs n ++ drop n before) (traced .whole ∙ ap with-tail message)
-        ∙ ap (λ m. filled (with-tail (bits-of after bits)) m ++ drop m before) size;
+          is ∙ ap (λ xs. filled xs n ++ drop n before) (traced .whole ∙ ap with-tail message)
+          ∙ ap (λ m. filled (with-tail (bits-of after bits)) m ++ drop m before) size;
       weighs = subst (λ m. s .mean (found .weight) ≡ weight s order m sums (bits-of after bits)) size (traced .weighs ∙ ap (weight s order n sums) message);
       nearest = subst (λ m. Nearest s order m sums bits (bits-of after bits)) size (subst (Nearest s order n sums bits) message (traced .nearest));
       verdict = verdict;

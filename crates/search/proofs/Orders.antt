@@ -39,18 +39,17 @@ module _ {V : Type 0} (s : Scale V) where
 
   -- the lighter of the two that come to a state settles it
   module _ (cost : Outputs → s .Meaning) (old : List (Option V)) (k : ℕ) (x y : Option (s .Meaning))
-    (even : x ≡ through s cost old false k) (odd : y ≡ through s cost old true k) where
-
+      (even : x ≡ through s cost old false k) (odd : y ≡ through s cost old true k) where
     pub settled-even : Lighter s x y → Settled s cost old x false k
     settled-even h = record { is = even; least = least }
       where
-      least : (other : Bool) → Lighter s x (through s cost old other k)
-      least true = subst (Lighter s x) odd h
-      least false = subst (Lighter s x) even (lighter-refl x)
+        least : (other : Bool) → Lighter s x (through s cost old other k)
+        least true = subst (Lighter s x) odd h
+        least false = subst (Lighter s x) even (lighter-refl x)
 
     pub settled-odd : Lighter s y x → Settled s cost old y true k
     settled-odd h = record { is = odd; least = least }
       where
-      least : (other : Bool) → Lighter s y (through s cost old other k)
-      least true = subst (Lighter s y) odd (lighter-refl y)
-      least false = subst (Lighter s y) even h
+        least : (other : Bool) → Lighter s y (through s cost old other k)
+        least true = subst (Lighter s y) odd (lighter-refl y)
+        least false = subst (Lighter s y) even h

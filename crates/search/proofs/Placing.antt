@@ -21,7 +21,7 @@ column-within n i h =
     omega arith
 
 pub output-place : (order places : List ℕ) (n band t : ℕ) → band < 3 → Column-places order n places
-  → getD places (8 * band + bitAnd t 7) 0 + t / 8 ≡ place-of order n (band + 2) t
+    → getD places (8 * band + bitAnd t 7) 0 + t / 8 ≡ place-of order n (band + 2) t
 unfolding place-of
 output-place order places n band t few columns =
     let low : bitAnd t 7 ≡ t % 8 = and-mask t 3 in

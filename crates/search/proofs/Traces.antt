@@ -15,8 +15,8 @@ use Rattle.block.specs.Bits.{bit}
 use Rattle.search.specs.Paths.{input, origin, predecessor}
 
 pub back-more : (survivors : List ℕ) (bits : List Bool) (above t s p : ℕ) (u : Bool) → above ≡ suc t → above ≤ length bits
-  → p ≡ predecessor (bit s (getD survivors t 0)) s → u ≡ input p s → reverse (origin survivors above s) ≡ take above bits
-  → (reverse (origin survivors t p) ≡ take t bits) × (u ≡ getD bits t false)
+    → p ≡ predecessor (bit s (getD survivors t 0)) s → u ≡ input p s → reverse (origin survivors above s) ≡ take above bits
+    → (reverse (origin survivors t p) ≡ take t bits) × (u ≡ getD bits t false)
 back-more survivors bits above t s p u up within from is traced =
     let q = predecessor (bit s (getD survivors t 0)) s in
     let longer : take above bits ≡ take t bits ++ getD bits t false ∷ [] = ap (λ n. take n bits) (up ∙ sym (add-one t)) ∙ take-more bits t false (omega arith) in
@@ -26,11 +26,11 @@ back-more survivors bits above t s p u up within from is traced =
 
 -- a value written at k, where those from the place above on are right already
 pub right-more : {A : Type 0} (xs : List A) (f : ℕ → A) (n above at : ℕ) (y d : A) → above ≡ at + 1 → at < length xs
-  → ((k : ℕ) → above ≤ k → k < n → getD xs k d ≡ f k) → y ≡ f at → (k : ℕ) → at ≤ k → k < n → getD (set xs at y) k d ≡ f k
+    → ((k : ℕ) → above ≤ k → k < n → getD xs k d ≡ f k) → y ≡ f at → (k : ℕ) → at ≤ k → k < n → getD (set xs at y) k d ≡ f k
 right-more xs f n above at y d up within others here k low high =
     elim (cases-eq k at) [
-      inl e ↦ ap (λ j. getD (set xs at y) j d) e ∙ getD-set-same xs at y d within ∙ here ∙ sym (ap f e)
-    | inr other ↦ getD-set-other xs at k y d other ∙ others k (omega arith) high
+      | inl e ↦ ap (λ j. getD (set xs at y) j d) e ∙ getD-set-same xs at y d within ∙ here ∙ sym (ap f e)
+      | inr other ↦ getD-set-other xs at k y d other ∙ others k (omega arith) high
     ]
 
 -- a list by its first n elements and the rest

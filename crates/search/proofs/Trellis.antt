@@ -55,8 +55,7 @@ comes false p h = comes-at false p (below 16 (comes-test false) refl p h)
 pub came-from : (m : Cells) (u : Bool) → (predecessor (bit 0 (state-of m)) (state-of (next m u)) ≡ state-of m) × (input (state-of m) (state-of (next m u)) ≡ u)
 came-from m u =
     let c = comes u (state-of m) (state-small m) in
-    let same = cells-state m in
-    (
+    let same = cells-state m in (
       sym (c .0 ∙ ap (λ x. predecessor (bit 0 (state-of m)) (state-of (next x u))) same),
       sym (c .1 ∙ ap (λ x. input (state-of m) (state-of (next x u))) same),
     )

@@ -19,8 +19,8 @@ byte-small false = omega arith
 pub bit-new : (w : ℕ) (b : Bool) → bit 0 (2 * w + boolByte b) ≡ b
 bit-new w true = eq-eqb _ 1 (ap (λ x. x % 2) (div-one (2 * w + 1)) ∙ odd)
   where
-  odd : (2 * w + 1) % 2 ≡ 1
-  odd = omega arith
+    odd : (2 * w + 1) % 2 ≡ 1
+    odd = omega arith
 bit-new w false = ne-eqb _ 1 (λ e. absurd (omega (arith, sym (ap (λ x. x % 2) (div-one (2 * w + 0))) ∙ e)))
 
 -- and each other one place higher

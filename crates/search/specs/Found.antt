@@ -42,7 +42,7 @@ abbrev pub Find-does : {V : Type 0} (s : Scale V) → ℕ → ℕ → List ℕ �
 Find-does s octets check order tally before after words words-after paths paths-after r =
     Performs (find-checks (block-octets octets check) (length tally) (length before) (length words) (length paths)) find-number
     (λ found. Names s octets check order (entry-sums s tally) before after found
-        × (drop (8 * block-octets octets check) words-after ≡ drop (8 * block-octets octets check) words)
-        × (drop 32 paths-after ≡ drop 32 paths))
+    × (drop (8 * block-octets octets check) words-after ≡ drop (8 * block-octets octets check) words)
+    × (drop 32 paths-after ≡ drop 32 paths))
     ((after ≡ before) × (words-after ≡ words) × (paths-after ≡ paths))
     r

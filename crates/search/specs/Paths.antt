@@ -93,7 +93,7 @@ module _ {V : Type 0} (s : Scale V) where
     pub record Best (survivors : List ℕ) (paths : List (Option V)) (t : ℕ) : Type 0 where
       pub every : (us : List Bool) → length us ≡ t → Lighter (meant paths (state-of (ends us))) (Some (path-weight us))
       pub held : (k : ℕ) → k < 16 → Cases (meant paths k) (Unit {0})
-        (λ w. (state-of (ends (origin survivors t k)) ≡ k) × (w ≡ path-weight (origin survivors t k)))
+          (λ w. (state-of (ends (origin survivors t k)) ≡ k) × (w ≡ path-weight (origin survivors t k)))
 
     -- The block that the survivors give, from state 0 back: a message with its tail, of weight w, and no message of that
     -- many bits weighs less.

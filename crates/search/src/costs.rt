@@ -25,7 +25,10 @@ fn entry_side<V: Copy>(entry: Entry<V>, bit: bool) -> V
 pub(crate) fn cost_of<W: Weighing>(entries: StepEntries<W::Value>, outputs: Outputs) -> W::Value
     ensures { λ r. ⌜ scale .mean r ≡ entries-cost scale entries outputs ⌝ }
 {
-    let first = W::sum(entry_side(entries.v1, outputs.v1), entry_side(entries.v2, outputs.v2));
+    let first = W::sum(
+        entry_side(entries.v1, outputs.v1),
+        entry_side(entries.v2, outputs.v2),
+    );
     let second = W::sum(first, entry_side(entries.v3, outputs.v3));
     W::sum(second, entry_side(entries.v4, outputs.v4))
 }
@@ -69,7 +72,12 @@ fn entry_at<W: Weighing>(tally: &[Entry<W::Value>], place: usize) -> Entry<W::Va
 }
 
 // The entries of the outputs of step `t`.
-pub(crate) fn entries_at<W: Weighing>(tally: &[Entry<W::Value>], n: usize, places: &[usize; 24], t: usize) -> StepEntries<W::Value>
+pub(crate) fn entries_at<W: Weighing>(
+    tally: &[Entry<W::Value>],
+    n: usize,
+    places: &[usize; 24],
+    t: usize,
+) -> StepEntries<W::Value>
     requires { ⌜ Within-buffer n (now places) ⌝ ∗ ⌜ n ≤ 516 ⌝ ∗ ⌜ t < 8 * n ⌝ ∗ ⌜ 32 * n ≤ length (now tally) ⌝ }
     ensures { λ r. ⌜ ((order : List ℕ) → Column-places order n (now (places .entry)) → (v : Step-out) → entries-cost scale r v ≡ step-weight scale order n (entry-sums scale (now (tally .entry))) t v) ⌝ }
 {

@@ -24,7 +24,13 @@ impl FindRefusal {
 }
 
 // Runs through all steps of a block of `n` octets, and answers the weight of the lightest path that ends in state 0.
-fn run_halves<W: Weighing>(order: &Order, n: usize, tally: &[Entry<W::Value>], survivors: &mut [u16], paths: &mut [Option<W::Value>]) -> W::Value
+fn run_halves<W: Weighing>(
+    order: &Order,
+    n: usize,
+    tally: &[Entry<W::Value>],
+    survivors: &mut [u16],
+    paths: &mut [Option<W::Value>],
+) -> W::Value
     requires { ⌜ n ≤ 516 ⌝ ∗ ⌜ 1 ≤ n ⌝ ∗ ⌜ 32 * n ≤ length (now tally) ⌝ ∗ ⌜ 8 * n ≤ length (now survivors) ⌝ ∗ ⌜ 32 ≤ length (now paths) ⌝ }
     ensures traced { λ w. ⌜ ((bits : ℕ) → bits + 4 ≡ 8 * n → Traced scale (now (order .entry) .columns) n (entry-sums scale (now (tally .entry))) (now (survivors .exit)) bits (scale .mean w)) ⌝ }
     ensures later { λ _. ⌜ drop (8 * n) (now (survivors .exit)) ≡ drop (8 * n) (now (survivors .entry)) ⌝ }
@@ -41,7 +47,13 @@ fn run_halves<W: Weighing>(order: &Order, n: usize, tally: &[Entry<W::Value>], s
 }
 
 // The same, with the path weights behind the first 32 left alone.
-fn run_forward<W: Weighing>(order: &Order, n: usize, tally: &[Entry<W::Value>], survivors: &mut [u16], paths: &mut [Option<W::Value>]) -> W::Value
+fn run_forward<W: Weighing>(
+    order: &Order,
+    n: usize,
+    tally: &[Entry<W::Value>],
+    survivors: &mut [u16],
+    paths: &mut [Option<W::Value>],
+) -> W::Value
     requires { ⌜ n ≤ 516 ⌝ ∗ ⌜ 1 ≤ n ⌝ ∗ ⌜ 32 * n ≤ length (now tally) ⌝ ∗ ⌜ 8 * n ≤ length (now survivors) ⌝ ∗ ⌜ 32 ≤ length (now paths) ⌝ }
     ensures traced { λ w. ⌜ ((bits : ℕ) → bits + 4 ≡ 8 * n → Traced scale (now (order .entry) .columns) n (entry-sums scale (now (tally .entry))) (now (survivors .exit)) bits (scale .mean w)) ⌝ }
     ensures later { λ _. ⌜ drop (8 * n) (now (survivors .exit)) ≡ drop (8 * n) (now (survivors .entry)) ⌝ }

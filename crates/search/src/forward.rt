@@ -36,7 +36,12 @@ pub(crate) fn input_to(from: u8, state: u8) -> bool
 }
 
 // The path weight that comes to a state through one of its predecessors.
-fn through<W: Weighing>(entries: StepEntries<W::Value>, old: &[Option<W::Value>], odd: bool, state: u8) -> Option<W::Value>
+fn through<W: Weighing>(
+    entries: StepEntries<W::Value>,
+    old: &[Option<W::Value>],
+    odd: bool,
+    state: u8,
+) -> Option<W::Value>
     requires { ⌜ state < 16 ⌝ ∗ ⌜ 16 ≤ length (now old) ⌝ }
     ensures { λ r. ⌜ mapped (scale .mean) r ≡ thro scale (entries-cost scale entries) (now (old .entry)) odd state ⌝ }
 {
@@ -65,16 +70,26 @@ fn is_lighter<W: Weighing>(first: Option<W::Value>, second: Option<W::Value>) ->
 }
 
 // The lighter of the two path weights that come to a state.
-fn arrive<W: Weighing>(entries: StepEntries<W::Value>, old: &[Option<W::Value>], state: u8) -> Arrival<W::Value>
+fn arrive<W: Weighing>(
+    entries: StepEntries<W::Value>,
+    old: &[Option<W::Value>],
+    state: u8,
+) -> Arrival<W::Value>
     requires { ⌜ state < 16 ⌝ ∗ ⌜ 16 ≤ length (now old) ⌝ }
     ensures { λ r. ⌜ Settled scale (entries-cost scale entries) (now (old .entry)) (mapped (scale .mean) (r .weight)) (r .odd) state ⌝ }
 {
     let even = through::<W>(entries, old, false, state);
     let odd = through::<W>(entries, old, true, state);
     if is_lighter::<W>(even, odd) {
-        Arrival { weight: odd, odd: true }
+        Arrival {
+            weight: odd,
+            odd: true,
+        }
     } else {
-        Arrival { weight: even, odd: false }
+        Arrival {
+            weight: even,
+            odd: false,
+        }
     }
 }
 
@@ -86,7 +101,11 @@ fn put<V: Copy + Drop>(paths: &mut [Option<V>], state: u8, weight: Option<V>)
 }
 
 // Chooses at each of the sixteen states, and answers the word of survivors: bit s names the predecessor of state s.
-fn settle<W: Weighing>(entries: StepEntries<W::Value>, old: &[Option<W::Value>], new: &mut [Option<W::Value>]) -> u16
+fn settle<W: Weighing>(
+    entries: StepEntries<W::Value>,
+    old: &[Option<W::Value>],
+    new: &mut [Option<W::Value>],
+) -> u16
     requires { ⌜ 16 ≤ length (now old) ⌝ ∗ ⌜ 16 ≤ length (now new) ⌝ }
     ensures settled { λ r. ⌜ ((k : ℕ) → k < 16 → Settled scale (entries-cost scale entries) (now (old .entry)) (meant scale (now (new .exit)) k) (bit k r) k) ⌝ }
     ensures rest { λ _. ⌜ drop 16 (now (new .exit)) ≡ drop 16 (now (new .entry)) ⌝ }

@@ -13,12 +13,14 @@ loop-octets-holds c = refl
 
 pub returns-then-payload-at-p : need.returns-then-payload-at-p
 returns-then-payload-at-p c =
-    let e = sym (c .payload-at .ensures) ∙ c .if-payload-at-p .taken in
-    (some-size-at 512 _ _ _ _ (omega arith) (omega arith) e, record {
-      within = search needs;
-      fits = e;
-      alone = λ other f. payload-alone other _ _ _ (f ∙ sym e);
-    })
+    let e = sym (c .payload-at .ensures) ∙ c .if-payload-at-p .taken in (
+      some-size-at 512 _ _ _ _ (omega arith) (omega arith) e,
+      record {
+        within = search needs;
+        fits = e;
+        alone = λ other f. payload-alone other _ _ _ (f ∙ sym e);
+      },
+    )
 
 pub loop-octets-again : need.loop-octets-again
 loop-octets-again c =

@@ -13,12 +13,11 @@ use Rattle.code.proofs.encode.buffer_octet.Needs as need
 pub loop-i-again : need.loop-i-again
 loop-i-again c =
     let bits = c .loop-i .bits in
-    let i = c .loop-i .i in
-    (
+    let i = c .loop-i .i in (
       length-set bits i _ ∙ c .loop-i .inv .0,
       below-more _ _
-      (λ k h. getD-set-other bits i k _ false (λ e. omega arith) ∙ c .loop-i .inv .1 k h)
-      (getD-set-same bits i _ false (omega (arith, c .loop-i .inv .0)) ∙ c .place-bit .ensures),
+          (λ k h. getD-set-other bits i k _ false (λ e. omega arith) ∙ c .loop-i .inv .1 k h)
+          (getD-set-same bits i _ false (omega (arith, c .loop-i .inv .0)) ∙ c .place-bit .ensures),
     )
 
 pub returns : need.returns

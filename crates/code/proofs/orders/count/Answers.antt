@@ -15,8 +15,8 @@ loop-x-again c =
     let i = c .loop-x .x-index in
     let more = at-drop-more (count-of a) xs i 0 (c .loop-x-test .taken) in
     elim (c .if-x-column .came) [
-      then-x-column w ↦ omega (arith, w .n-is, more ∙ count-here a (getD xs i 0) (drop (i + 1) xs) (w .if-x-column .taken))
-    | else-x-column w ↦ omega (arith, w .n-is, more ∙ count-not-here a (getD xs i 0) (drop (i + 1) xs) (w .if-x-column .left))
+      | then-x-column w ↦ omega (arith, w .n-is, more ∙ count-here a (getD xs i 0) (drop (i + 1) xs) (w .if-x-column .taken))
+      | else-x-column w ↦ omega (arith, w .n-is, more ∙ count-not-here a (getD xs i 0) (drop (i + 1) xs) (w .if-x-column .left))
     ]
 
 pub returns : need.returns

@@ -19,14 +19,13 @@ returns c =
     let came = c .args .received .now in
     let short = ltb (length came) (block-octets (c .args .octets) (c .args .check)) in
     let small = ltb (length (c .args .target .now)) (c .args .octets) in
-    let r = c .check-fits .result in
-    (
+    let r = c .check-fits .result in (
       all-passed (size-checks (c .args .octets) (c .args .check)) (if-refuse short 5 ∷ if-refuse small 6 ∷ []) (made .0)
-      ∙ passed short 5 (if-refuse small 6 ∷ []) (le-ltb (length came) (block-octets (c .args .octets) (c .args .check)) (omega arith))
-      ∙ passed small 6 [] (le-ltb (length (c .args .target .now)) (c .args .octets) (omega arith)),
+          ∙ passed short 5 (if-refuse small 6 ∷ []) (le-ltb (length came) (block-octets (c .args .octets) (c .args .check)) (omega arith))
+          ∙ passed small 6 [] (le-ltb (length (c .args .target .now)) (c .args .octets) (omega arith)),
       (
         subst (λ l. Decides r (Check-fits (c .args .octets) l (bits-of came (8 * c .args .octets + l)))) (made .1 .1)
-        (subst (λ o. Decides r (Check-fits o (c .in-Ok .size .check) (bits-of came (8 * o + c .in-Ok .size .check)))) (made .1 .0) (c .check-fits .ensures)),
+            (subst (λ o. Decides r (Check-fits o (c .in-Ok .size .check) (bits-of came (8 * o + c .in-Ok .size .check)))) (made .1 .0) (c .check-fits .ensures)),
         c .tail-fits .ensures,
         c .copy-front .ensures,
       ),

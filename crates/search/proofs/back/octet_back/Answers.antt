@@ -16,8 +16,7 @@ loop-i-again c =
     let above = c .loop-i .i in
     let i = above - 1 in
     let sv = c .args .survivors .now in
-    let back = c .step-back-back .result in
-    (
+    let back = c .step-back-back .result in (
       c .step-back-back .ensures .small,
       length-set (c .loop-i .bits) i (back .bit) ∙ c .loop-i .inv .1,
       λ bits within traced.
@@ -35,8 +34,7 @@ returns c =
     record {
       small = c .loop-i .inv .0;
       traced = λ bits within traced.
-          let done = c .loop-i .inv .2 bits within traced in
-          (
+          let done = c .loop-i .inv .2 bits within traced in (
             c .octet .ensures ∙ octet-same _ _ (λ k h. done .1 k (omega arith) h),
             subst (λ t. reverse (origin sv t (c .loop-i .state)) ≡ take t bits) down (done .0),
           );

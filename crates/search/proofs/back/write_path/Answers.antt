@@ -32,8 +32,7 @@ loop-b-again c =
     let bits = reverse (origin sv (8 * n) 0) in
     let back = c .octet-back-back .result in
     let up : 8 * above ≡ 8 * b + 8 = omega arith in
-    let traced = c .octet-back-back .ensures .traced bits (omega (arith, long sv n)) (subst (λ t. reverse (origin sv t (c .loop-b .state)) ≡ take t bits) up (c .loop-b .inv .1)) in
-    (
+    let traced = c .octet-back-back .ensures .traced bits (omega (arith, long sv n)) (subst (λ t. reverse (origin sv t (c .loop-b .state)) ≡ take t bits) up (c .loop-b .inv .1)) in (
       c .octet-back-back .ensures .small,
       traced .1,
       right-more (c .loop-b .target) (λ k. octet-of (λ i. getD bits (8 * k + i) false)) n above b (back .octet) 0 (omega arith) (omega arith) (c .loop-b .inv .2) (traced .0),

@@ -11,11 +11,10 @@ loop-a-again c =
     let places = c .loop-a .places in
     let a = c .loop-a .a in
     let n = c .args .n in
-    let here = getD-set-same places a (c .column-place .result) 0 (omega (arith, c .loop-a .inv .0)) in
-    (
+    let here = getD-set-same places a (c .column-place .result) 0 (omega (arith, c .loop-a .inv .0)) in (
       length-set places a _ ∙ c .loop-a .inv .0,
       below-more _ _ (λ k h. getD-set-other places a k _ 0 (λ e. omega arith) ∙ c .loop-a .inv .1 k h) (here ∙ c .column-place .ensures .is),
       below-more _ _
-      (λ k h. subst (λ x. x + n ≤ 32 * n) (sym (getD-set-other places a k (c .column-place .result) 0 (λ e. omega arith))) (c .loop-a .inv .2 k h))
-      (subst (λ x. x + n ≤ 32 * n) (sym here) (c .column-place .ensures .within)),
+          (λ k h. subst (λ x. x + n ≤ 32 * n) (sym (getD-set-other places a k (c .column-place .result) 0 (λ e. omega arith))) (c .loop-a .inv .2 k h))
+          (subst (λ x. x + n ≤ 32 * n) (sym here) (c .column-place .ensures .within)),
     )

@@ -18,16 +18,15 @@ returns g c =
     let big = block-octets (size .octets) (size .check) in
     let n = c .block-octets-n .result in
     let is = c .block-octets-n .ensures in
-    let whole : 8 * size .octets + size .check + 4 ≡ 8 * n = omega (arith, size .«odd_half») in
-    (
+    let whole : 8 * size .octets + size .check + 4 ≡ 8 * n = omega (arith, size .«odd_half») in (
       passed _ 6 []
-      (or-from _ _ (le-ltb (length (c .args .tally .now)) (32 * big) (omega arith))
-        (or-from _ _ (le-ltb (length (c .args .target .now)) big (omega arith))
+          (or-from _ _ (le-ltb (length (c .args .tally .now)) (32 * big) (omega arith))
+          (or-from _ _ (le-ltb (length (c .args .target .now)) big (omega arith))
           (or-from _ _ (le-ltb (length (c .args .survivors .now)) (8 * big) (omega arith)) (le-ltb (length (c .args .paths .now)) 32 (omega arith))))),
       (
         names-since s (size .octets) (size .check) (c .args .order .now .columns) (entry-sums s (c .args .tally .now)) (c .args .target .now) (c .write-path .last .target) (c .run-forward-weight .last .survivors)
-        (record { weight = c .run-forward-weight .result; «check_fits» = c .check-fits .result }) n is whole (c .write-path .ensures)
-        (c .run-forward-weight .ensures .traced (8 * size .octets + size .check) whole) (c .check-fits .ensures),
+            (record { weight = c .run-forward-weight .result; «check_fits» = c .check-fits .result }) n is whole (c .write-path .ensures)
+            (c .run-forward-weight .ensures .traced (8 * size .octets + size .check) whole) (c .check-fits .ensures),
         subst (λ m. drop (8 * m) (c .run-forward-weight .last .survivors) ≡ drop (8 * m) (c .args .survivors .now)) is (c .run-forward-weight .ensures .later),
         c .run-forward-weight .ensures .rest,
       ),

@@ -24,9 +24,9 @@ returns g c =
           let same : entries-cost s (c .entries-at-entries .result) ≡ step-weight s order n sums t = λ i v. c .entries-at-entries .ensures order columns v i in
           subst (λ m. Best s order n sums (set before t word) (c .settle .last .new) m) (sym (add-one t))
           (best-more s order n sums before (set before t word) (c .args .from .now) (c .settle .last .new) t word best
-            (λ k h. getD-set-other before t k word 0 (λ e. omega arith))
-            (getD-set-same before t word 0 (c .pre .room .0))
-            (λ k h. subst (λ cost. Settled s cost (c .args .from .now) (meant s (c .settle .last .new) k) (bit k word) k) same (c .settle .ensures .settled k h)));
+          (λ k h. getD-set-other before t k word 0 (λ e. omega arith))
+          (getD-set-same before t word 0 (c .pre .room .0))
+          (λ k h. subst (λ cost. Settled s cost (c .args .from .now) (meant s (c .settle .last .new) k) (bit k word) k) same (c .settle .ensures .settled k h)));
       later = λ m h. drop-set-lt m before t word h;
       rest = c .settle .ensures .rest;
     }

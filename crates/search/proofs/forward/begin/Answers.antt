@@ -11,11 +11,10 @@ pub loop-state-again : need.loop-state-again
 loop-state-again g c =
     let paths = c .loop-state .paths in
     let k = c .loop-state .state in
-    let written = c .put .ensures in
-    (
+    let written = c .put .ensures in (
       ap (drop 16) written ∙ drop-set-lt 16 paths k None (omega arith) ∙ c .loop-state .inv .0,
       below-more _ _ (λ j h. ap (λ xs. getD xs j None) written ∙ getD-set-other paths k j None None (λ e. omega arith) ∙ c .loop-state .inv .1 j h)
-      (ap (λ xs. getD xs k None) written ∙ getD-set-same paths k None None (omega arith)),
+          (ap (λ xs. getD xs k None) written ∙ getD-set-same paths k None None (omega arith)),
     )
 
 pub returns : need.returns

@@ -20,8 +20,7 @@ loop-state-again g c =
     let word = 2 * c .loop-state .word + boolByte (c .arrive-arrival .result .odd) in
     let weight = c .arrive-arrival .result .weight in
     let up : 1 + (16 - above) ≡ 16 - state = omega arith in
-    let written : c .put .last .paths ≡ set (c .loop-state .new) state weight = c .put .ensures in
-    (
+    let written : c .put .last .paths ≡ set (c .loop-state .new) state weight = c .put .ensures in (
       subst (λ e. word < 2 ^ e) up (word-grows (c .loop-state .word) (16 - above) (c .arrive-arrival .result .odd) (c .loop-state .inv .0)),
       ap (drop 16) written ∙ drop-set-lt 16 (c .loop-state .new) state weight (omega arith) ∙ c .loop-state .inv .1,
       λ k low high. subst (λ xs. Settled s cost (c .args .old .now) (meant s xs k) (bit (k - state) word) k) (sym written)
