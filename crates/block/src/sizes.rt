@@ -54,6 +54,6 @@ impl Size {
     pub fn block_octets(self) -> usize
         ensures { λ r. ⌜ r ≡ block-octets (self .octets) (self .check) ⌝ }
     {
-        self.octets + (self.check + 4) / 8
+        (self.check + 4) / 8 + self.octets
     }
 }

@@ -9,3 +9,4 @@ pub mod Settling
 pub mod Finish
 pub mod Traces
 pub mod Naming
+pub mod Growth
