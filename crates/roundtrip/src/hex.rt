@@ -2,9 +2,9 @@
 use std::fmt;
 
 #[derive(Clone, Copy)]
-pub struct Hex<'a>(pub &'a [u8]);
+pub(crate) struct Hex<'a>(pub(crate) &'a [u8]);
 
-pub impl<'a> fmt::Display for Hex<'a> as HexDisplay {
+pub(crate) impl<'a> fmt::Display for Hex<'a> as HexDisplay {
     fn fmt<W: fmt::Write>(&self, f: &mut fmt::Formatter<W>) -> fmt::Result {
         for x in self.0 {
             let x = *x;

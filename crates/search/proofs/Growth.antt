@@ -32,8 +32,7 @@ place-small order is n (suc (suc o)) t low high h =
     subst (λ b. cond b t (8 * n + n * index-of a order + t / 8) < 32 * n) (sym later) (omega arith)
 
 module _ {V : Type 0} (s : Scale V) (order : List ℕ) (is : is-order order ≡ true) (n : ℕ) (few more : Sums s)
-  (grows : (p : ℕ) (b : Bool) → p < 32 * n → s .atmost (few p b) (more p b)) where
-
+    (grows : (p : ℕ) (b : Bool) → p < 32 * n → s .atmost (few p b) (more p b)) where
   part-grows : (t : ℕ) (v : Outputs) (o : ℕ) → 1 ≤ o → o ≤ 4 → t < 8 * n → s .atmost (part s order n few t v o) (part s order n more t v o)
   unfolding part
   part-grows t v o low high h = grows (place-of order n o t) (output o v) (place-small order is n o t low high h)
@@ -57,8 +56,8 @@ module _ {V : Type 0} (s : Scale V) (order : List ℕ) (is : is-order order ≡ 
 
 -- so where each place weighs the same, each message does
 pub weight-same : {V : Type 0} (s : Scale V) (order : List ℕ) → is-order order ≡ true → (n : ℕ) (one other : Sums s)
-  → ((p : ℕ) (b : Bool) → p < 32 * n → one p b ≡ other p b) → (message : List Bool) → length message + 4 ≤ 8 * n
-  → weight s order n one message ≡ weight s order n other message
+    → ((p : ℕ) (b : Bool) → p < 32 * n → one p b ≡ other p b) → (message : List Bool) → length message + 4 ≤ 8 * n
+    → weight s order n one message ≡ weight s order n other message
 weight-same s order is n one other same message h =
     s .laws .antisymmetric _ _
     (weight-grows s order is n one other (λ p b l. subst (s .atmost (one p b)) (same p b l) (reflexive s (one p b))) message h)
