@@ -43,7 +43,10 @@ mod tests {
 
     // The outputs v1 to v4 as one number, v1 highest.
     fn number(v: Outputs) -> u8 {
-        (if v.v1 { 8 } else { 0 }) + (if v.v2 { 4 } else { 0 }) + (if v.v3 { 2 } else { 0 }) + (if v.v4 { 1 } else { 0 })
+        (if v.v1 { 8 } else { 0 })
+            + (if v.v2 { 4 } else { 0 })
+            + (if v.v3 { 2 } else { 0 })
+            + (if v.v4 { 1 } else { 0 })
     }
 
     #[test]
@@ -61,11 +64,26 @@ mod tests {
     #[test]
     fn buffer() -> Result<(), Fail> {
         let mut buffer = [0xff; 9];
-        check_eq(encode_report(&[0x80], 4, &Order::order_r(), &mut buffer[0..7]), Err(EncodeRefusal::Buffer))?;
-        check_eq(encode_report(&[0x80], 4, &Order::order_r(), &mut buffer), Ok(()))?;
-        check_eq(buffer, [0x80, 0x0b, 0x20, 0x60, 0x20, 0x62, 0x22, 0x60, 0xff])?;
+        check_eq(
+            encode_report(&[0x80], 4, &Order::order_r(), &mut buffer[0..7]),
+            Err(EncodeRefusal::Buffer),
+        )?;
+        check_eq(
+            encode_report(&[0x80], 4, &Order::order_r(), &mut buffer),
+            Ok(()),
+        )?;
+        check_eq(
+            buffer,
+            [0x80, 0x0b, 0x20, 0x60, 0x20, 0x62, 0x22, 0x60, 0xff],
+        )?;
         let mut report = [0];
-        check_eq(peek_report(&buffer, 1, 4, &mut report), Ok(Peeked { check_fits: true, tail_fits: true }))?;
+        check_eq(
+            peek_report(&buffer, 1, 4, &mut report),
+            Ok(Peeked {
+                check_fits: true,
+                tail_fits: true,
+            }),
+        )?;
         check_eq(report, [0x80])
     }
 }
