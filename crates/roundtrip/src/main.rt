@@ -1,15 +1,24 @@
 // One report from beginning to end: encoded, sent, heard through a bad channel, and decoded.
+mod channel;
+mod hearing;
 mod hex;
 mod sending;
 
+use channel::Notes;
 use code::Order;
-use hex::Hex;
-use hex::HexDisplay;
-use sender::Sender;
+use hearing::hear_report;
 use sending::Report;
-use sending::send_first;
 use std::env;
 use std::error::AnyError;
+use weighing::hard::Hard;
+use weighing::hard::HardReading;
+use weighing::hard::HardWeighing;
+use weighing::soft::Soft;
+use weighing::soft::SoftReading;
+use weighing::soft::SoftWeighing;
+use weighing::worst::Worst;
+use weighing::worst::WorstReading;
+use weighing::worst::WorstWeighing;
 
 // The report that is sent where no argument gives another.
 const DEFAULT: &str = "lamp 7: 81% charged, dimmer ok";
@@ -21,15 +30,15 @@ const CHECK: usize = 12;
 const RATE: usize = 2;
 
 fn run(rt: &LibcRuntime, text: &str) -> Result<(), AnyError> {
-    let heap = rt.alloc();
-    let report = Report::encode(heap, text, CHECK, &Order::order_r())?;
+    println!(rt, "The report is \"{text}\".")?;
+    let report = Report::encode(rt.alloc(), text, CHECK, &Order::order_r())?;
     report.tell(rt)?;
-    let Ok(mut sender) = Sender::new(report.size.octets(), report.size.check()) else {
-        return Err("no sender for this size".into());
-    };
-    let sent = send_first(rt, &report, &mut sender, RATE)?;
-    println!(rt, "The air carries {}.", Hex(sent.as_slice()))?;
-    Ok(())
+    println!(rt, "The hard reading: each bit is heard as 0, 1 or missing.")?;
+    hear_report::<Hard>(rt, &report, Notes::Bits, RATE)?;
+    println!(rt, "The soft reading: each bit is heard with a level, and contradicted levels add up.")?;
+    hear_report::<Soft>(rt, &report, Notes::Levels, RATE)?;
+    println!(rt, "The worst reading: the same levels, and the loudest contradiction counts.")?;
+    hear_report::<Worst>(rt, &report, Notes::Levels, RATE)
 }
 
 fn main(rt: LibcRuntime) -> Result<(), AnyError> {

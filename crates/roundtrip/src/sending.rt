@@ -102,11 +102,11 @@ fn try_passage(
     match copied {
         Ok(()) => println!(
             rt,
-            "A passage of {count} octets is copied and given up: the sender stood at octet {before} and stands at {after}."
+            "  A passage of {count} octets is copied and given up: the sender stood at octet {before} and stands at {after}."
         )?,
         Err(refusal) => println!(
             rt,
-            "A passage of {count} octets is refused with {}.",
+            "  A passage of {count} octets is refused with {}.",
             refusal.number()
         )?,
     }
@@ -129,11 +129,11 @@ pub(crate) fn send_more(
     match copied {
         Ok(()) => println!(
             rt,
-            "A passage of {count} octets is copied and confirmed: the sender stood at octet {before} and stands at {after}."
+            "  A passage of {count} octets is copied and confirmed: the sender stood at octet {before} and stands at {after}."
         )?,
         Err(refusal) => println!(
             rt,
-            "A passage of {count} octets is refused with {}.",
+            "  A passage of {count} octets is refused with {}.",
             refusal.number()
         )?,
     }

@@ -1,0 +1,13 @@
+// What holds of whole runs of sheets and senders, for every reading.
+ghost use mathlib.Core.Path.{_≡_};
+ghost use Rattle.nearest.specs.Whole.{Nearest-message};
+use weighing::Reading;
+
+// The theorem on runs: each tally is its book's, each decode names a nearest message by the book with its exact weight,
+// the weight does not fall without a wipe, and confirmed octets are the buffer's in rounds.
+pub fn nearest_message<R: Reading>() -> u8
+    ensures theorem { λ _. ⌜ Nearest-message R (R·Weighing .scale) (R·Reading .reads) (R·Reading .against) ⌝ }
+    ensures answer { λ r. ⌜ r ≡ 0 ⌝ }
+{
+    0
+}

@@ -1,0 +1,71 @@
+// A bad channel that is the same in every run: it turns some bits and mutes others.
+use std::alloc::AllocError;
+use std::alloc::Global;
+
+// How the receiver notes a bit: as 0, 1 or 2 for missing, or as a level, whose sign is the bit and whose size says how sure it is.
+#[derive(Clone, Copy)]
+pub(crate) enum Notes {
+    Bits,
+    Levels,
+}
+
+// What the channel does to one bit.
+#[derive(Clone, Copy)]
+enum Fate {
+    Clean,
+    Turned,
+    Mute,
+}
+
+// A row of numbers that look like chance.
+#[derive(Drop)]
+pub(crate) struct Noise(pub(crate) u32);
+
+impl Noise {
+    fn next(&mut self) -> u8 {
+        self.0 = self.0.wrapping_mul(1664525).wrapping_add(1013904223);
+        (self.0 >> 24) as u8
+    }
+
+    // One bit in sixteen is turned, and one in sixteen is muted.
+    fn fate(&mut self) -> Fate {
+        match self.next() % 16 {
+            3 => Fate::Turned,
+            11 => Fate::Mute,
+            _ => Fate::Clean,
+        }
+    }
+
+    // The octet that the receiver notes for a bit.
+    fn note(&mut self, bit: bool, notes: Notes) -> u8 {
+        let fate = self.fate();
+        let heard = match fate {
+            Fate::Turned => !bit,
+            Fate::Clean => bit,
+            Fate::Mute => bit,
+        };
+        match (fate, notes) {
+            (Fate::Mute, Notes::Bits) => 2,
+            (Fate::Mute, Notes::Levels) => 0,
+            (_, Notes::Bits) => heard as u8,
+            (_, Notes::Levels) => self.level(heard),
+        }
+    }
+
+    // A level of size 1 to 64, as an octet in two's complement.
+    fn level(&mut self, heard: bool) -> u8 {
+        let size = self.next() % 64 + 1;
+        if heard { size } else { (256 - size as u16) as u8 }
+    }
+
+    // One symbol for each bit of the octets, bit 1 of each octet first.
+    pub(crate) fn hear(&mut self, heap: Global, octets: &[u8], notes: Notes) -> Result<Vec<u8>, AllocError> {
+        let mut symbols = Vec::new(heap);
+        for octet in octets {
+            for i in 0..8u8 {
+                symbols.push(self.note((*octet >> i) % 2 == 1, notes))?;
+            }
+        }
+        Ok(symbols)
+    }
+}

@@ -1,0 +1,3 @@
+pub mod Symbols
+pub mod Sums
+pub mod Laying
