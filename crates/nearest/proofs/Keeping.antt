@@ -38,7 +38,7 @@ module _ {V A : Type 0} (W : Type 0) (s : Scale V) (reads : ℕ → Option A) (a
 
   -- a place's sum once a take is noted
   noted-sum : (places : ℕ) (book : Book) (start : ℕ) (octets : List ℕ) (p : ℕ) (b : Bool)
-    → book-sums reads s against places (noted book start octets) p b ≡ sum-behind reads s against (book-sums reads s against places book p b) p b (laid reads places (8 * start) octets)
+      → book-sums reads s against places (noted book start octets) p b ≡ sum-behind reads s against (book-sums reads s against places book p b) p b (laid reads places (8 * start) octets)
   unfolding book-sums
   noted-sum places book start octets p b =
       ap (sum-behind reads s against (s .zero) p b) (sym (joined-more (λ t. laid reads places (8 * t .start) (t .octets)) [] (book .takes) (record { start = start; octets = octets })))
@@ -54,7 +54,7 @@ module _ {V A : Type 0} (W : Type 0) (s : Scale V) (reads : ℕ → Option A) (a
       pub ordered : is-order order ≡ true
       pub whole : 8 * octets + check + 4 ≡ 8 * block-octets octets check
       pub entries : (p : ℕ) (b : Bool) → p < 32 * block-octets octets check
-        → entry-sums s (st .tally) p b ≡ book-sums reads s against (32 * block-octets octets check) (st .book) p b
+          → entry-sums s (st .tally) p b ≡ book-sums reads s against (32 * block-octets octets check) (st .book) p b
       pub counted : st .count ≡ st .book .count
 
     -- nothing changed
@@ -67,8 +67,8 @@ module _ {V A : Type 0} (W : Type 0) (s : Scale V) (reads : ℕ → Option A) (a
     }
 
     take-kept : (before after : Standing V) (start : ℕ) (symbols : List ℕ) (r : Result ℕ TakeRefusal) → Kept before
-      → Take-does s reads against (block-octets octets check) (before .count) (after .count) (before .tally) (after .tally) start symbols r
-      → after .book ≡ after-take (before .book) start symbols r → Kept after
+        → Take-does s reads against (block-octets octets check) (before .count) (after .count) (before .tally) (after .tally) start symbols r
+        → after .book ≡ after-take (before .book) start symbols r → Kept after
     take-kept before after start symbols (Err e) kept does book = same-kept before after kept (does .2) (does .3) book
     take-kept before after start symbols (Ok total) kept does book = record {
       ordered = kept .ordered;
@@ -83,8 +83,8 @@ module _ {V A : Type 0} (W : Type 0) (s : Scale V) (reads : ℕ → Option A) (a
     }
 
     wipe-kept : (before after : Standing V) (r : Result Unit WipeRefusal) → Kept before
-      → Wipe-does s (block-octets octets check) (before .count) (after .count) (before .tally) (after .tally) r
-      → after .book ≡ after-wipe (before .book) r → Kept after
+        → Wipe-does s (block-octets octets check) (before .count) (after .count) (before .tally) (after .tally) r
+        → after .book ≡ after-wipe (before .book) r → Kept after
     wipe-kept before after (Err e) kept does book = same-kept before after kept (does .1 .0) (does .1 .1) book
     wipe-kept before after (Ok x) kept does book = record {
       ordered = kept .ordered;
@@ -102,7 +102,7 @@ module _ {V A : Type 0} (W : Type 0) (s : Scale V) (reads : ℕ → Option A) (a
 
     -- a sheet that is newly opened
     open-kept : (st : Standing V) (tally : List (Entry V)) (sheet : Sheet W V) → Open-does s octets check order tally (st .tally) (Ok sheet)
-      → st .count ≡ sheet .count → st .book ≡ empty → Kept st
+        → st .count ≡ sheet .count → st .book ≡ empty → Kept st
     open-kept st tally sheet does count book = record {
       ordered = subst (λ cs. is-order cs ≡ true) (does .1 .order-is) (sheet .order .each);
       whole = omega (arith, does .1 .octets-are, does .1 .check-is, sheet .size .«odd_half»);
@@ -118,14 +118,14 @@ module _ {V A : Type 0} (W : Type 0) (s : Scale V) (reads : ℕ → Option A) (a
 
     -- a decode by the entries is one by the book
     names-by-book : (st : Standing V) → Kept st → (target target′ : List ℕ) (found : Found V)
-      → Names s octets check order (entry-sums s (st .tally)) target target′ found
-      → Names s octets check order (book-sums reads s against (32 * block-octets octets check) (st .book)) target target′ found
+        → Names s octets check order (entry-sums s (st .tally)) target target′ found
+        → Names s octets check order (book-sums reads s against (32 * block-octets octets check) (st .book)) target target′ found
     names-by-book st kept target target′ found names =
         let n = block-octets octets check in
         let bits = 8 * octets + check in
         let mine = bits-of target′ bits in
         let same : (m : List Bool) → length m ≡ bits → weight s order n (entry-sums s (st .tally)) m ≡ weight s order n (book-sums reads s against (32 * n) (st .book)) m =
-            λ m e. weight-same s order (kept .ordered) n _ _ (kept .entries) m (omega (arith, kept .whole)) in
+        λ m e. weight-same s order (kept .ordered) n _ _ (kept .entries) m (omega (arith, kept .whole)) in
         let long : length mine ≡ bits = length-map-counting (bit-at target′) 0 bits in
         record {
           written = names .written;

@@ -45,7 +45,7 @@ module _ {V A : Type 0} (W : Type 0) (s : Scale V) (reads : ℕ → Option A) (a
     same-grows before after same p b h = subst (λ t. s .atmost (entry-sums s (before .tally) p b) (entry-sums s t p b)) (sym same) (reflexive s (entry-sums s (before .tally) p b))
 
     take-grows : (before after : Standing V) (start : ℕ) (symbols : List ℕ) (r : Result ℕ TakeRefusal)
-      → Take-does s reads against (block-octets octets check) (before .count) (after .count) (before .tally) (after .tally) start symbols r → Grows before after
+        → Take-does s reads against (block-octets octets check) (before .count) (after .count) (before .tally) (after .tally) start symbols r → Grows before after
     take-grows before after start symbols (Err e) does p b h = same-grows before after (does .2) p b h
     take-grows before after start symbols (Ok total) does p b h =
         let places = 32 * block-octets octets check in
@@ -73,5 +73,5 @@ module _ {V A : Type 0} (W : Type 0) (s : Scale V) (reads : ℕ → Option A) (a
       let after = weight s order n (entry-sums s (later .tally)) second in
       subst (λ x. s .atmost x (s .mean (found₂ .weight))) (sym (does₁ .1 .0 .weighs))
       (subst (s .atmost _) (sym (does₂ .1 .0 .weighs))
-        (s .laws .transitive _ before _ (does₁ .1 .0 .nearest second long)
-          (weight-grows s order (kept .ordered) n _ _ (stretch-grows octets check order first stretch) second (omega (arith, kept .whole)))))
+      (s .laws .transitive _ before _ (does₁ .1 .0 .nearest second long)
+      (weight-grows s order (kept .ordered) n _ _ (stretch-grows octets check order first stretch) second (omega (arith, kept .whole)))))

@@ -39,14 +39,14 @@ module _ {V A : Type 0} (W : Type 0) (s : Scale V) (reads : ℕ → Option A) (a
   -- one call: what stood before, and what stands after
   pub data Call (before after : Standing V) : Type 0 where
     takes : (start : ℕ) (symbols : List ℕ) (r : Result ℕ TakeRefusal)
-      → Take-does s reads against (block-octets octets check) (before .count) (after .count) (before .tally) (after .tally) start symbols r
-      → after .book ≡ after-take (before .book) start symbols r → Call before after
+        → Take-does s reads against (block-octets octets check) (before .count) (after .count) (before .tally) (after .tally) start symbols r
+        → after .book ≡ after-take (before .book) start symbols r → Call before after
     decodes : (target target′ words words′ : List ℕ) (paths paths′ : List (Option V)) (r : Result (Found V) FindRefusal)
-      → Find-does s octets check order (before .tally) target target′ words words′ paths paths′ r
-      → after ≡ before → Call before after
+        → Find-does s octets check order (before .tally) target target′ words words′ paths paths′ r
+        → after ≡ before → Call before after
     wipes : (r : Result Unit WipeRefusal)
-      → Wipe-does s (block-octets octets check) (before .count) (after .count) (before .tally) (after .tally) r
-      → after .book ≡ after-wipe (before .book) r → Call before after
+        → Wipe-does s (block-octets octets check) (before .count) (after .count) (before .tally) (after .tally) r
+        → after .book ≡ after-wipe (before .book) r → Call before after
 
   -- a call that is no performed wipe
   abbrev pub No-wipe : {before after : Standing V} → Call before after → Type 0
@@ -58,7 +58,7 @@ module _ {V A : Type 0} (W : Type 0) (s : Scale V) (reads : ℕ → Option A) (a
   -- a run begins at the call that opens the sheet
   pub data Run : Standing V → Type 0 where
     opened : (st : Standing V) (tally : List (Entry V)) (sheet : Sheet W V) → Open-does s octets check order tally (st .tally) (Ok sheet)
-      → st .count ≡ sheet .count → st .book ≡ empty → Run st
+        → st .count ≡ sheet .count → st .book ≡ empty → Run st
     called : {before : Standing V} (after : Standing V) → Run before → Call before after → Run after
 
   -- calls one after another with no performed wipe among them

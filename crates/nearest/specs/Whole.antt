@@ -22,14 +22,14 @@ module _ {V A : Type 0} (W : Type 0) (s : Scale V) (reads : ℕ → Option A) (a
   -- other message of the size weighs at least as much by the book.
   pub record By-the-book (octets check : ℕ) (order : List ℕ) (st : Standing V) : Type 0 where
     pub entries : (p : ℕ) (b : Bool) → p < 32 * block-octets octets check
-      → entry-sums s (st .tally) p b ≡ book-sums reads s against (32 * block-octets octets check) (st .book) p b
+        → entry-sums s (st .tally) p b ≡ book-sums reads s against (32 * block-octets octets check) (st .book) p b
     pub counted : st .count ≡ st .book .count
     pub take-answers : (start : ℕ) (symbols : List ℕ) (tally : List (Entry V)) (count total : ℕ)
-      → Take-does s reads against (block-octets octets check) (st .count) count (st .tally) tally start symbols (Ok total)
-      → total ≡ noted (st .book) start symbols .count
+        → Take-does s reads against (block-octets octets check) (st .count) count (st .tally) tally start symbols (Ok total)
+        → total ≡ noted (st .book) start symbols .count
     pub decode-names : (target target′ words words′ : List ℕ) (paths paths′ : List (Option V)) (found : Found V)
-      → Find-does s octets check order (st .tally) target target′ words words′ paths paths′ (Ok found)
-      → Names s octets check order (book-sums reads s against (32 * block-octets octets check) (st .book)) target target′ found
+        → Find-does s octets check order (st .tally) target target′ words words′ paths paths′ (Ok found)
+        → Names s octets check order (book-sums reads s against (32 * block-octets octets check) (st .book)) target target′ found
 
   abbrev pub Tally-part : Type 0
   Tally-part = (octets check : ℕ) (order : List ℕ) (st : Standing V) → Run W s reads against octets check order st → By-the-book octets check order st

@@ -1,4 +1,4 @@
-// A bad channel that is the same in every run: it turns some bits and mutes others.
+// A bad channel that is the same in every run: it turns some bits and mutes others. A turned bit is heard with less level.
 use std::alloc::AllocError;
 use std::alloc::Global;
 
@@ -15,6 +15,11 @@ enum Fate {
     Clean,
     Turned,
     Mute,
+}
+
+// A level of this size for a bit, as an octet in two's complement.
+fn level(heard: bool, size: u8) -> u8 {
+    if heard { size } else { size.wrapping_neg() }
 }
 
 // A row of numbers that look like chance.
@@ -48,18 +53,18 @@ impl Noise {
             (Fate::Mute, Notes::Bits) => 2,
             (Fate::Mute, Notes::Levels) => 0,
             (_, Notes::Bits) => heard as u8,
-            (_, Notes::Levels) => self.level(heard),
+            (Fate::Turned, Notes::Levels) => level(heard, self.next() % 16 + 1),
+            (Fate::Clean, Notes::Levels) => level(heard, self.next() % 64 + 33),
         }
     }
 
-    // A level of size 1 to 64, as an octet in two's complement.
-    fn level(&mut self, heard: bool) -> u8 {
-        let size = self.next() % 64 + 1;
-        if heard { size } else { (256 - size as u16) as u8 }
-    }
-
     // One symbol for each bit of the octets, bit 1 of each octet first.
-    pub(crate) fn hear(&mut self, heap: Global, octets: &[u8], notes: Notes) -> Result<Vec<u8>, AllocError> {
+    pub(crate) fn hear(
+        &mut self,
+        heap: Global,
+        octets: &[u8],
+        notes: Notes,
+    ) -> Result<Vec<u8>, AllocError> {
         let mut symbols = Vec::new(heap);
         for octet in octets {
             for i in 0..8u8 {

@@ -18,6 +18,7 @@ use weighing::Reading;
 
 // How many octets are asked for where the check does not fit yet, and how often at most.
 const MORE: usize = 16;
+
 const ROUNDS: usize = 12;
 
 // The buffers that a decode is lent.
@@ -54,24 +55,52 @@ fn zero_tally<R: Reading>(heap: Global, places: usize) -> Result<Vec<Entry<R::Va
 }
 
 // Takes what arrived from octet `start` on.
-fn take<R: Reading>(rt: &LibcRuntime, sheet: &mut Sheet<R>, tally: &mut [Entry<R::Value>], start: usize, symbols: &[u8]) -> Result<(), AnyError> {
+fn take<R: Reading>(
+    rt: &LibcRuntime,
+    sheet: &mut Sheet<R>,
+    tally: &mut [Entry<R::Value>],
+    start: usize,
+    symbols: &[u8],
+) -> Result<(), AnyError> {
     match sheet.take(tally, start, symbols) {
-        Ok(total) => println!(rt, "  {} symbols are taken from octet {start} on, {total} in all.", symbols.len())?,
+        Ok(total) => println!(
+            rt,
+            "  {} symbols are taken from octet {start} on, {total} in all.",
+            symbols.len()
+        )?,
         Err(refusal) => println!(rt, "  The take is refused with {}.", refusal.number())?,
     }
     Ok(())
 }
 
 // Decodes, and answers whether the check fits.
-fn decode<R: Reading>(rt: &LibcRuntime, sheet: &Sheet<R>, tally: &[Entry<R::Value>], lent: &mut Lent<R::Value>) -> Result<bool, AnyError>
+fn decode<R: Reading>(
+    rt: &LibcRuntime,
+    sheet: &Sheet<R>,
+    tally: &[Entry<R::Value>],
+    lent: &mut Lent<R::Value>,
+) -> Result<bool, AnyError>
 where
     R::Value: fmt::Display,
 {
-    match sheet.decode(tally, lent.target.as_mut_slice(), lent.survivors.as_mut_slice(), lent.paths.as_mut_slice()) {
+    match sheet.decode(
+        tally,
+        lent.target.as_mut_slice(),
+        lent.survivors.as_mut_slice(),
+        lent.paths.as_mut_slice(),
+    ) {
         Ok(found) => {
             let weight = found.weight;
-            let verdict = if found.check_fits { "fits" } else { "does not fit" };
-            println!(rt, "  The nearest message weighs {weight}, and its check {verdict}: {}", Hex(lent.target.as_slice()))?;
+            let verdict = if found.check_fits {
+                "fits"
+            } else {
+                "does not fit"
+            };
+            println!(
+                rt,
+                "  The nearest message weighs {weight}, and its check {verdict}: {}",
+                Hex(lent.target.as_slice())
+            )?;
             Ok(found.check_fits)
         }
         Err(refusal) => {
@@ -82,14 +111,24 @@ where
 }
 
 // One report is sent, heard and decoded by a reading.
-pub(crate) fn hear_report<R: Reading>(rt: &LibcRuntime, report: &Report, notes: Notes, k: usize) -> Result<(), AnyError>
+pub(crate) fn hear_report<R: Reading>(
+    rt: &LibcRuntime,
+    report: &Report,
+    notes: Notes,
+    k: usize,
+) -> Result<(), AnyError>
 where
     R::Value: fmt::Display,
 {
     let heap = rt.alloc();
     let size = report.size;
     let mut tally = zero_tally::<R>(heap, 32 * size.block_octets())?;
-    let Ok(mut sheet) = Sheet::<R>::open(size.octets(), size.check(), Order::order_r(), tally.as_mut_slice()) else {
+    let Ok(mut sheet) = Sheet::<R>::open(
+        size.octets(),
+        size.check(),
+        Order::order_r(),
+        tally.as_mut_slice(),
+    ) else {
         return Err("the tally is short".into());
     };
     let Ok(mut sender) = Sender::new(size.octets(), size.check()) else {
@@ -104,17 +143,37 @@ where
         if decode::<R>(rt, &sheet, tally.as_slice(), &mut lent)? {
             break;
         }
-        ask_more::<R>(rt, report, &mut sender, &mut sheet, tally.as_mut_slice(), &mut noise, notes)?;
+        ask_more::<R>(
+            rt,
+            report,
+            &mut sender,
+            &mut sheet,
+            tally.as_mut_slice(),
+            &mut noise,
+            notes,
+        )?;
     }
     match sheet.wipe(tally.as_mut_slice()) {
-        Ok(()) => println!(rt, "  The sheet is wiped; it has taken {} symbols.", sheet.count())?,
+        Ok(()) => println!(
+            rt,
+            "  The sheet is wiped, and counts {} symbols.",
+            sheet.count()
+        )?,
         Err(refusal) => println!(rt, "  The wipe is refused with {}.", refusal.number())?,
     }
     Ok(())
 }
 
 // Asks for more octets and takes what arrives of them.
-fn ask_more<R: Reading>(rt: &LibcRuntime, report: &Report, sender: &mut Sender, sheet: &mut Sheet<R>, tally: &mut [Entry<R::Value>], noise: &mut Noise, notes: Notes) -> Result<(), AnyError> {
+fn ask_more<R: Reading>(
+    rt: &LibcRuntime,
+    report: &Report,
+    sender: &mut Sender,
+    sheet: &mut Sheet<R>,
+    tally: &mut [Entry<R::Value>],
+    noise: &mut Noise,
+    notes: Notes,
+) -> Result<(), AnyError> {
     let start = sender.standing();
     let more = send_more(rt, report, sender, MORE.min(report.buffer.len()))?;
     let symbols = noise.hear(rt.alloc(), more.as_slice(), notes)?;

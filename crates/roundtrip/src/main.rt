@@ -33,11 +33,20 @@ fn run(rt: &LibcRuntime, text: &str) -> Result<(), AnyError> {
     println!(rt, "The report is \"{text}\".")?;
     let report = Report::encode(rt.alloc(), text, CHECK, &Order::order_r())?;
     report.tell(rt)?;
-    println!(rt, "The hard reading: each bit is heard as 0, 1 or missing.")?;
+    println!(
+        rt,
+        "The hard reading: each bit is heard as 0, 1 or missing."
+    )?;
     hear_report::<Hard>(rt, &report, Notes::Bits, RATE)?;
-    println!(rt, "The soft reading: each bit is heard with a level, and contradicted levels add up.")?;
+    println!(
+        rt,
+        "The soft reading: each bit is heard with a level, and contradicted levels add up."
+    )?;
     hear_report::<Soft>(rt, &report, Notes::Levels, RATE)?;
-    println!(rt, "The worst reading: the same levels, and the loudest contradiction counts.")?;
+    println!(
+        rt,
+        "The worst reading: the same levels, and the loudest contradiction counts."
+    )?;
     hear_report::<Worst>(rt, &report, Notes::Levels, RATE)
 }
 

@@ -78,7 +78,7 @@ pub(crate) fn send_first(
     };
     println!(
         rt,
-        "At rate 8/{} the first payload has {count} octets.",
+        "  At rate 8/{} the first payload has {count} octets.",
         8 + k.min(24)
     )?;
     let lost = try_passage(rt, report, sender, count)?;
