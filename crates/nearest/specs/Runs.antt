@@ -25,6 +25,9 @@ pub record Standing (V : Type 0) : Type 0 where
   pub tally : List (Entry V)
   pub book : Book
 
+abbrev pub standing : {V : Type 0} → ℕ → List (Entry V) → Book → Standing V
+standing count tally book = record { count = count; tally = tally; book = book }
+
 -- a performed take is noted in the book, and a performed wipe empties it
 abbrev pub after-take : Book → ℕ → List ℕ → Result ℕ TakeRefusal → Book
 after-take book start octets (Ok total) = noted book start octets

@@ -1,7 +1,23 @@
 // What holds of whole runs of sheets and senders, for every reading.
 ghost use mathlib.Core.Path.{_≡_};
 ghost use Rattle.nearest.specs.Whole.{Nearest-message};
+
+mod runs;
+
+pub use runs::short_run;
+use search::FindRefusal;
+use search::Found;
+use sheet::Sheet;
+use sheet::TakeRefusal;
 use weighing::Reading;
+
+// What a short run leaves: the sheet, and what its take and its decode answered.
+#[derive(Drop)]
+pub struct ShortRun<R: Reading> {
+    pub sheet: Sheet<R>,
+    pub taken: Result<usize, TakeRefusal>,
+    pub found: Result<Found<R::Value>, FindRefusal>,
+}
 
 // The theorem on runs: each tally is its book's, each decode names a nearest message by the book with its exact weight,
 // the weight does not fall without a wipe, and confirmed octets are the buffer's in rounds.
