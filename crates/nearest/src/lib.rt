@@ -1,5 +1,6 @@
 // What holds of whole runs of sheets and senders, for every reading.
 ghost use mathlib.Core.Path.{_≡_};
+ghost use Rattle.nearest.specs.Undamaged.{Decodes-what-was-sent};
 ghost use Rattle.nearest.specs.Whole.{Nearest-message};
 
 mod runs;
@@ -10,6 +11,7 @@ use search::Found;
 use sheet::Sheet;
 use sheet::TakeRefusal;
 use weighing::Reading;
+use weighing::hard::Hard;
 
 // What a short run leaves: the sheet, and what its take and its decode answered.
 #[derive(Drop)]
@@ -26,4 +28,13 @@ pub fn nearest_message<R: Reading>() -> u8
     ensures answer { λ r. ⌜ r ≡ 0 ⌝ }
 {
     0
+}
+
+// The theorem on an undamaged payload: taken by the hard reading onto a new sheet of its size and order, the first payload
+// of an encoded report, at any rate, decodes to the message sent, with weight 0.
+pub fn undamaged_payload() -> u8
+    ensures theorem { λ _. ⌜ Decodes-what-was-sent Hard ⌝ }
+    ensures answer { λ r. ⌜ r ≡ 1 ⌝ }
+{
+    1
 }

@@ -11,10 +11,9 @@ use Rattle.std.specs.declared.result.Result.{Result}
 use Rattle.std.specs.declared.result.Result.the-variants.{Ok, Err}
 use Rattle.std.proofs.shelf.Counted.{map-counting-more, length-map-counting, getD-map-counting}
 use Rattle.std.proofs.shelf.Lists.{append-nil, append-assoc, take-at}
-use Rattle.block.specs.declared.Size.{Size}
 use Rattle.sender.specs.declared.PassageRefusal.{PassageRefusal}
 use Rattle.sender.specs.Passages.{Guard, round, sent, Copy-does, passing}
-use Rattle.sender.specs.Runs.{Copies, none, next, Run, made, confirmed, given-up, written, asked-of, Sends-in-rounds, Sending-runs-on}
+use Rattle.sender.specs.Runs.{Copies, none, next, Run, made, confirmed, given-up, written, asked-of, Sends-in-rounds}
 
 -- functions that agree everywhere make the same list
 map-same : (f g : ℕ → ℕ) (xs : List ℕ) → ((k : ℕ) → f k ≡ g k) → map f xs ≡ map g xs
@@ -140,14 +139,3 @@ sends-in-rounds octets check buffer cursor kept asked run =
           ∙ ap (λ n. getD buffer (n % octets′) 0) (zero-add j);
       stands = k .stands;
     }
-
-pub sending-runs-on : Sending-runs-on
-sending-runs-on buffer s s′ kept asked run target target′ count r d =
-    let octets = s .size .octets in
-    let check = s .size .check in
-    let all = kept ++ written r count target′ in
-    let more = asked-of r count in
-    let copies = next none target target′ count (passing octets check (s .cursor) (s′ .cursor)) r (d .1) in
-    let on : Run octets check buffer (s′ .cursor) all (asked + (0 + more)) = confirmed run refl copies (s′ .cursor) refl in
-    subst (λ (z : Size). Run (z .octets) (z .check) buffer (s′ .cursor) all (asked + more)) (sym (d .0))
-    (subst (λ n. Run octets check buffer (s′ .cursor) all (asked + n)) (zero-add more) on)

@@ -8,7 +8,7 @@ use Rattle.std.specs.declared.result.Result.{Result}
 use Rattle.std.specs.declared.result.Result.the-variants.{Ok, Err}
 use Rattle.sender.specs.declared.Sender.{Sender}
 use Rattle.sender.specs.declared.PassageRefusal.{PassageRefusal}
-use Rattle.sender.specs.Passages.{Guard, round, New-does, Begin-does, Copy-does, Confirm-does, Give-up-does, Send-does}
+use Rattle.sender.specs.Passages.{Guard, round, New-does, Begin-does, Copy-does, Confirm-does, Give-up-does}
 
 -- what a copy wrote, and how many octets it was asked for; a refused copy wrote nothing and does not count
 abbrev pub written : Result Unit PassageRefusal → ℕ → List ℕ → List ℕ
@@ -50,10 +50,3 @@ abbrev pub Sends-in-rounds : Type 0
 Sends-in-rounds =
     (octets check : ℕ) (buffer : List ℕ) (cursor : ℕ) (kept : List ℕ) (asked : ℕ) → Run octets check buffer cursor kept asked
     → In-rounds octets check buffer cursor kept asked
-
--- Sending takes a run on by one passage.
-abbrev pub Sending-runs-on : Type 0
-Sending-runs-on =
-    (buffer : List ℕ) (s s′ : Sender) (kept : List ℕ) (asked : ℕ) → Run (s .size .octets) (s .size .check) buffer (s .cursor) kept asked
-    → (target target′ : List ℕ) (count : ℕ) (r : Result Unit PassageRefusal) → Send-does buffer target target′ count s s′ r
-    → Run (s′ .size .octets) (s′ .size .check) buffer (s′ .cursor) (kept ++ written r count target′) (asked + asked-of r count)

@@ -10,7 +10,6 @@ mod tests;
 use block::Size;
 use block::SizeDebug;
 use block::SizePartialEq;
-pub use runs::sends_in_rounds;
 pub use runs::short_run;
 
 // Why a passage copies nothing.

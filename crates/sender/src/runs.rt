@@ -1,18 +1,9 @@
-// What holds of every run of a sender, and a short run by the calls themselves.
+// A short run of a sender by the calls themselves.
 ghost use mathlib.Core.Path.{_≡_};
 ghost use Rattle.sender.specs.Passages.{sent};
-ghost use Rattle.sender.specs.Runs.{Run, Sends-in-rounds, Sending-runs-on};
+ghost use Rattle.sender.specs.Runs.{Run};
 use crate::Passage;
 use crate::Sender;
-
-// What confirmed passages copied, joined in order, is the buffer's octets in rounds.
-pub fn sends_in_rounds() -> u8
-    ensures rounds { λ _. ⌜ Sends-in-rounds ⌝ }
-    ensures sending { λ _. ⌜ Sending-runs-on ⌝ }
-    ensures answer { λ r. ⌜ r ≡ 0 ⌝ }
-{
-    0
-}
 
 // Three octets that are confirmed, after a copy of none that is refused; then two that are given up.
 pub fn short_run(buffer: &[u8; 8], kept: &mut [u8; 3]) -> Sender
