@@ -18,7 +18,7 @@ use Rattle.sheet.specs.Books.{empty}
 use Rattle.sheet.specs.Calls.{Open-does, Take-does}
 use Rattle.sheet.specs.declared.Sheet.{Sheet}
 use Rattle.sheet.specs.declared.TakeRefusal.{TakeRefusal}
-use Rattle.nearest.specs.Runs.{Run, after-take, called, decodes, opened, standing, takes}
+use Rattle.nearest.specs.Runs.{Three-calls, after-take, called, decodes, opened, standing, takes}
 
 module _ {V A : Type 0} (W : Type 0) (s : Scale V) (reads : ℕ → Option A) (against : A → Bool → V) where
   pub three-calls : (octets check : ℕ) (order columns : List ℕ) (tally₀ tally₁ tally₂ : List (Entry V)) (sheet after : Sheet W V)
@@ -27,7 +27,7 @@ module _ {V A : Type 0} (W : Type 0) (s : Scale V) (reads : ℕ → Option A) (a
       → after .size ≡ sheet .size → after .order ≡ sheet .order
       → (target target′ words words′ : List ℕ) (paths paths′ : List (Option V)) (d : Result (Found V) FindRefusal)
       → Find-does s (after .size .octets) (after .size .check) (after .order .columns) tally₂ target target′ words words′ paths paths′ d
-      → Run W s reads against octets check order (standing (after .count) tally₂ (after-take empty start symbols r))
+      → Three-calls W s reads against octets check order start symbols tally₀ tally₂ target target′ words words′ paths paths′ after r d
   three-calls octets check order columns tally₀ tally₁ tally₂ sheet after same does start symbols r take size ordered target target′ words words′ paths paths′ d find =
       let made = does .1 in
       let t = made .octets-are in
@@ -41,6 +41,17 @@ module _ {V A : Type 0} (W : Type 0) (s : Scale V) (reads : ℕ → Option A) (a
       subst (λ cs. Find-does s octets check cs tally₂ target target′ words words′ paths paths′ d) columns-are
       (subst (λ c. Find-does s octets c (after .order .columns) tally₂ target target′ words words′ paths paths′ d) size-l
       (subst (λ o. Find-does s o (after .size .check) (after .order .columns) tally₂ target target′ words words′ paths paths′ d) size-t find)) in
-      called _
-      (called (standing (after .count) tally₂ (after-take empty start symbols r)) (opened (standing (sheet .count) tally₁ empty) tally₀ sheet opening refl refl) (takes start symbols r taking refl))
-      (decodes target target′ words words′ paths paths′ d finding refl)
+      record {
+        between = tally₁;
+        new-sheet = sheet;
+        opening = opening;
+        taking = taking;
+        decoding = finding;
+        octets-are = size-t;
+        check-is = size-l;
+        order-is = columns-are;
+        run =
+            called _
+            (called (standing (after .count) tally₂ (after-take empty start symbols r)) (opened (standing (sheet .count) tally₁ empty) tally₀ sheet opening refl refl) (takes start symbols r taking refl))
+            (decodes target target′ words words′ paths paths′ d finding refl);
+      }

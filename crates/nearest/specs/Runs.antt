@@ -68,3 +68,16 @@ module _ {V A : Type 0} (W : Type 0) (s : Scale V) (reads : ℕ → Option A) (a
   pub data Stretch (from : Standing V) : Standing V → Type 0 where
     none : Stretch from from
     more : {before : Standing V} (after : Standing V) → Stretch from before → (call : Call before after) → No-wipe call → Stretch from after
+
+  -- An opening, a take and a decode, one after another: what each did, how the sheet then is, and the run that they make.
+  pub record Three-calls (start : ℕ) (symbols : List ℕ) (tally tally′ : List (Entry V)) (target target′ words words′ : List ℕ) (paths paths′ : List (Option V))
+      (sheet : Sheet W V) (taken : Result ℕ TakeRefusal) (found : Result (Found V) FindRefusal) : Type 0 where
+    pub between : List (Entry V)
+    pub new-sheet : Sheet W V
+    pub opening : Open-does s octets check order tally between (Ok new-sheet)
+    pub taking : Take-does s reads against (block-octets octets check) (new-sheet .count) (sheet .count) between tally′ start symbols taken
+    pub decoding : Find-does s octets check order tally′ target target′ words words′ paths paths′ found
+    pub octets-are : sheet .size .octets ≡ octets
+    pub check-is : sheet .size .check ≡ check
+    pub order-is : sheet .order .columns ≡ order
+    pub run : Run (standing (sheet .count) tally′ (after-take empty start symbols taken))

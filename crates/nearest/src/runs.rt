@@ -4,8 +4,7 @@ ghost use Prim.Native.Nat.{_<_, _≤_};
 ghost use lib.ListN.{length};
 ghost use Rattle.std.specs.Options.{Cases};
 ghost use Rattle.code.specs.Columns.{order-R};
-ghost use Rattle.sheet.specs.Books.{empty};
-ghost use Rattle.nearest.specs.Runs.{Run, after-take, standing};
+ghost use Rattle.nearest.specs.Runs.{Three-calls};
 use crate::ShortRun;
 use code::Order;
 use search::Entry;
@@ -21,7 +20,7 @@ fn run_calls<R: Reading>(
     paths: &mut [Option<R::Value>],
 ) -> ShortRun<R>
     requires { ⌜ 64 ≤ length (now tally) ⌝ }
-    ensures { λ r. ⌜ Run R (R·Weighing .scale) (R·Reading .reads) (R·Reading .against) 1 4 order-R (standing (r .sheet .count) (now (tally .exit)) (after-take empty 7 (now (octets .entry)) (r .taken))) ⌝ }
+    ensures { λ r. ⌜ Three-calls R (R·Weighing .scale) (R·Reading .reads) (R·Reading .against) 1 4 order-R 7 (now (octets .entry)) (now (tally .entry)) (now (tally .exit)) (now (target .entry)) (now (target .exit)) (now (survivors .entry)) (now (survivors .exit)) (now (paths .entry)) (now (paths .exit)) (r .sheet) (r .taken) (r .found) ⌝ }
 {
     let mut sheet = match Sheet::<R>::open(1, 4, Order::order_r(), tally) {
         Ok(sheet) => sheet,
@@ -44,7 +43,7 @@ pub fn short_run<R: Reading>(
     survivors: &mut [u16],
     paths: &mut [Option<R::Value>],
 ) -> Option<ShortRun<R>>
-    ensures { λ r. ⌜ Cases r ((length (now (tally .entry)) < 64) × (now (tally .exit) ≡ now (tally .entry))) (λ run. Run R (R·Weighing .scale) (R·Reading .reads) (R·Reading .against) 1 4 order-R (standing (run .sheet .count) (now (tally .exit)) (after-take empty 7 (now (octets .entry)) (run .taken)))) ⌝ }
+    ensures { λ r. ⌜ Cases r ((length (now (tally .entry)) < 64) × (now (tally .exit) ≡ now (tally .entry)) × (now (target .exit) ≡ now (target .entry)) × (now (survivors .exit) ≡ now (survivors .entry)) × (now (paths .exit) ≡ now (paths .entry))) (λ run. Three-calls R (R·Weighing .scale) (R·Reading .reads) (R·Reading .against) 1 4 order-R 7 (now (octets .entry)) (now (tally .entry)) (now (tally .exit)) (now (target .entry)) (now (target .exit)) (now (survivors .entry)) (now (survivors .exit)) (now (paths .entry)) (now (paths .exit)) (run .sheet) (run .taken) (run .found)) ⌝ }
 {
     if tally.len() < 64 {
         return None;

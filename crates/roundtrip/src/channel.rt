@@ -41,20 +41,15 @@ impl Noise {
         }
     }
 
-    // The octet that the receiver notes for a bit.
-    fn note(&mut self, bit: bool, notes: Notes) -> u8 {
-        let fate = self.fate();
-        let heard = match fate {
-            Fate::Turned => !bit,
-            Fate::Clean => bit,
-            Fate::Mute => bit,
-        };
+    // The octet that the receiver notes for a bit that met this fate.
+    fn note(&mut self, bit: bool, fate: Fate, notes: Notes) -> u8 {
         match (fate, notes) {
             (Fate::Mute, Notes::Bits) => 2,
             (Fate::Mute, Notes::Levels) => 0,
-            (_, Notes::Bits) => heard as u8,
-            (Fate::Turned, Notes::Levels) => level(heard, self.next() % 16 + 1),
-            (Fate::Clean, Notes::Levels) => level(heard, self.next() % 64 + 33),
+            (Fate::Turned, Notes::Bits) => !bit as u8,
+            (Fate::Clean, Notes::Bits) => bit as u8,
+            (Fate::Turned, Notes::Levels) => level(!bit, self.next() % 16 + 1),
+            (Fate::Clean, Notes::Levels) => level(bit, self.next() % 64 + 33),
         }
     }
 
@@ -64,13 +59,39 @@ impl Noise {
         heap: Global,
         octets: &[u8],
         notes: Notes,
-    ) -> Result<Vec<u8>, AllocError> {
-        let mut symbols = Vec::new(heap);
+    ) -> Result<Heard, AllocError> {
+        let mut heard = Heard {
+            symbols: Vec::new(heap),
+            turned: 0,
+            muted: 0,
+        };
         for octet in octets {
             for i in 0..8u8 {
-                symbols.push(self.note((*octet >> i) % 2 == 1, notes))?;
+                let fate = self.fate();
+                heard.count(fate);
+                heard
+                    .symbols
+                    .push(self.note((*octet >> i) % 2 == 1, fate, notes))?;
             }
         }
-        Ok(symbols)
+        Ok(heard)
+    }
+}
+
+// What arrives: the symbols, and how many bits the channel turned and muted.
+#[derive(Drop)]
+pub(crate) struct Heard {
+    pub(crate) symbols: Vec<u8>,
+    pub(crate) turned: usize,
+    pub(crate) muted: usize,
+}
+
+impl Heard {
+    fn count(&mut self, fate: Fate) {
+        match fate {
+            Fate::Clean => {}
+            Fate::Turned => self.turned = self.turned.saturating_add(1),
+            Fate::Mute => self.muted = self.muted.saturating_add(1),
+        }
     }
 }

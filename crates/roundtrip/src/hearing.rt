@@ -1,8 +1,9 @@
 // The receiving side: what arrives is taken onto a sheet and decoded until the check fits. One text for every reading.
+use crate::channel::Heard;
 use crate::channel::Noise;
 use crate::channel::Notes;
-use crate::hex::Hex;
-use crate::hex::HexDisplay;
+use crate::hex::Text;
+use crate::hex::TextDisplay;
 use crate::sending::Report;
 use crate::sending::send_first;
 use crate::sending::send_more;
@@ -60,13 +61,18 @@ fn take<R: Reading>(
     sheet: &mut Sheet<R>,
     tally: &mut [Entry<R::Value>],
     start: usize,
-    symbols: &[u8],
+    heard: &Heard,
 ) -> Result<(), AnyError> {
-    match sheet.take(tally, start, symbols) {
+    let count = heard.symbols.len();
+    println!(
+        rt,
+        "  The channel carries {count} bits: it turns {} and mutes {}.",
+        heard.turned, heard.muted
+    )?;
+    match sheet.take(tally, start, heard.symbols.as_slice()) {
         Ok(total) => println!(
             rt,
-            "  {} symbols are taken from octet {start} on, {total} in all.",
-            symbols.len()
+            "  They are taken from octet {start} on: {total} symbols in all."
         )?,
         Err(refusal) => println!(rt, "  The take is refused with {}.", refusal.number())?,
     }
@@ -83,34 +89,125 @@ fn decode<R: Reading>(
 where
     R::Value: fmt::Display,
 {
-    match sheet.decode(
+    let decoded = sheet.decode(
         tally,
         lent.target.as_mut_slice(),
         lent.survivors.as_mut_slice(),
         lent.paths.as_mut_slice(),
-    ) {
-        Ok(found) => {
-            let weight = found.weight;
-            let verdict = if found.check_fits {
-                "fits"
-            } else {
-                "does not fit"
-            };
-            println!(
+    );
+    let Ok(found) = decoded else {
+        println!(rt, "  The decode is refused.")?;
+        return Ok(false);
+    };
+    tell_message(
+        rt,
+        lent.target.as_slice(),
+        sheet.octets(),
+        found.weight,
+        found.check_fits,
+    )?;
+    Ok(found.check_fits)
+}
+
+// The message that was named, its weight, and whether its check fits.
+fn tell_message<V: fmt::Display + Drop>(
+    rt: &LibcRuntime,
+    named: &[u8],
+    octets: usize,
+    weight: V,
+    fits: bool,
+) -> Result<(), AnyError> {
+    let verdict = if fits { "fits" } else { "does not fit" };
+    let own = octets.min(named.len());
+    let text = Text(&named[0..own]);
+    println!(
+        rt,
+        "  The nearest message is \"{text}\": its weight is {weight}, and its check {verdict}."
+    )?;
+    Ok(())
+}
+
+// The two sides of one report: its sender, and the sheet with its tally.
+#[derive(Drop)]
+struct Sides<R: Reading> {
+    sender: Sender,
+    sheet: Sheet<R>,
+    tally: Vec<Entry<R::Value>>,
+    noise: Noise,
+}
+
+impl<R: Reading> Sides<R> {
+    fn open(heap: Global, report: &Report) -> Result<Sides<R>, AnyError> {
+        let size = report.size;
+        let mut tally = zero_tally::<R>(heap, 32 * size.block_octets())?;
+        let Ok(sheet) = Sheet::<R>::open(
+            size.octets(),
+            size.check(),
+            Order::order_r(),
+            tally.as_mut_slice(),
+        ) else {
+            return Err("the tally is short".into());
+        };
+        let Ok(sender) = Sender::new(size.octets(), size.check()) else {
+            return Err("no sender for this size".into());
+        };
+        Ok(Sides {
+            sender,
+            sheet,
+            tally,
+            noise: Noise(7),
+        })
+    }
+
+    // Takes octets that were sent from octet `start` on, as they arrive.
+    fn arrive(
+        &mut self,
+        rt: &LibcRuntime,
+        start: usize,
+        octets: &[u8],
+        notes: Notes,
+    ) -> Result<(), AnyError> {
+        let heard = self.noise.hear(rt.alloc(), octets, notes)?;
+        take::<R>(
+            rt,
+            &mut self.sheet,
+            self.tally.as_mut_slice(),
+            start,
+            &heard,
+        )
+    }
+
+    // Asks for more octets and takes what arrives of them.
+    fn ask_more(
+        &mut self,
+        rt: &LibcRuntime,
+        report: &Report,
+        notes: Notes,
+    ) -> Result<(), AnyError> {
+        let count = MORE.min(report.buffer.len());
+        println!(
+            rt,
+            "  The check does not fit, so {count} more octets are asked for."
+        )?;
+        let start = self.sender.standing();
+        let more = send_more(rt, report, &mut self.sender, count)?;
+        self.arrive(rt, start, more.as_slice(), notes)
+    }
+
+    fn wipe(&mut self, rt: &LibcRuntime) -> Result<(), AnyError> {
+        match self.sheet.wipe(self.tally.as_mut_slice()) {
+            Ok(()) => println!(
                 rt,
-                "  The nearest message weighs {weight}, and its check {verdict}: {}",
-                Hex(lent.target.as_slice())
-            )?;
-            Ok(found.check_fits)
+                "  The sheet is wiped, and counts {} symbols.",
+                self.sheet.count()
+            )?,
+            Err(refusal) => println!(rt, "  The wipe is refused with {}.", refusal.number())?,
         }
-        Err(refusal) => {
-            println!(rt, "  The decode is refused with {}.", refusal.number())?;
-            Ok(false)
-        }
+        Ok(())
     }
 }
 
-// One report is sent, heard and decoded by a reading.
+// One report is sent, heard and decoded by a reading, until its check fits.
 pub(crate) fn hear_report<R: Reading>(
     rt: &LibcRuntime,
     report: &Report,
@@ -121,61 +218,23 @@ where
     R::Value: fmt::Display,
 {
     let heap = rt.alloc();
-    let size = report.size;
-    let mut tally = zero_tally::<R>(heap, 32 * size.block_octets())?;
-    let Ok(mut sheet) = Sheet::<R>::open(
-        size.octets(),
-        size.check(),
-        Order::order_r(),
-        tally.as_mut_slice(),
-    ) else {
-        return Err("the tally is short".into());
-    };
-    let Ok(mut sender) = Sender::new(size.octets(), size.check()) else {
-        return Err("no sender for this size".into());
-    };
-    let mut lent = Lent::new(heap, size.block_octets())?;
-    let mut noise = Noise(7);
-    let first = send_first(rt, report, &mut sender, k)?;
-    let symbols = noise.hear(heap, first.as_slice(), notes)?;
-    take::<R>(rt, &mut sheet, tally.as_mut_slice(), 0, symbols.as_slice())?;
+    let mut sides = Sides::<R>::open(heap, report)?;
+    let mut lent = Lent::new(heap, report.size.block_octets())?;
+    let first = send_first(rt, report, &mut sides.sender, k)?;
+    sides.arrive(rt, 0, first.as_slice(), notes)?;
+    let mut fits = decode::<R>(rt, &sides.sheet, sides.tally.as_slice(), &mut lent)?;
     for _ in 0..ROUNDS {
-        if decode::<R>(rt, &sheet, tally.as_slice(), &mut lent)? {
+        if fits {
             break;
         }
-        ask_more::<R>(
+        sides.ask_more(rt, report, notes)?;
+        fits = decode::<R>(rt, &sides.sheet, sides.tally.as_slice(), &mut lent)?;
+    }
+    if !fits {
+        println!(
             rt,
-            report,
-            &mut sender,
-            &mut sheet,
-            tally.as_mut_slice(),
-            &mut noise,
-            notes,
+            "  The check still does not fit, and no more is asked for."
         )?;
     }
-    match sheet.wipe(tally.as_mut_slice()) {
-        Ok(()) => println!(
-            rt,
-            "  The sheet is wiped, and counts {} symbols.",
-            sheet.count()
-        )?,
-        Err(refusal) => println!(rt, "  The wipe is refused with {}.", refusal.number())?,
-    }
-    Ok(())
-}
-
-// Asks for more octets and takes what arrives of them.
-fn ask_more<R: Reading>(
-    rt: &LibcRuntime,
-    report: &Report,
-    sender: &mut Sender,
-    sheet: &mut Sheet<R>,
-    tally: &mut [Entry<R::Value>],
-    noise: &mut Noise,
-    notes: Notes,
-) -> Result<(), AnyError> {
-    let start = sender.standing();
-    let more = send_more(rt, report, sender, MORE.min(report.buffer.len()))?;
-    let symbols = noise.hear(rt.alloc(), more.as_slice(), notes)?;
-    take::<R>(rt, sheet, tally, start, symbols.as_slice())
+    sides.wipe(rt)
 }
