@@ -27,22 +27,18 @@ use Rattle.sheet.specs.Calls.{Open-does, Take-does, Wipe-does}
 use Rattle.sheet.specs.declared.Sheet.{Sheet}
 use Rattle.sheet.specs.declared.TakeRefusal.{TakeRefusal}
 use Rattle.sheet.specs.declared.WipeRefusal.{WipeRefusal}
+use Rattle.sheet.proofs.Laying.{sum-append}
 use Rattle.nearest.specs.Runs.{Call, Run, Standing, after-take, after-wipe, called, decodes, opened, takes, wipes}
 use Rattle.nearest.specs.Whole.{By-the-book, Tally-part}
 
 module _ {V A : Type 0} (W : Type 0) (s : Scale V) (reads : ℕ → Option A) (against : A → Bool → V) where
-  -- more symbols are added behind those before
-  sum-append : (xs ys : List (ℕ × A)) (w : s .Meaning) (p : ℕ) (b : Bool) → sum-behind reads s against w p b (xs ++ ys) ≡ sum-behind reads s against (sum-behind reads s against w p b xs) p b ys
-  sum-append [] ys w p b = refl
-  sum-append (x ∷ xs) ys w p b = sum-append xs ys (cond (eqb (x .0) p) (s .plus w (s .mean (against (x .1) b))) w) p b
-
   -- a place's sum once a take is noted
   noted-sum : (places : ℕ) (book : Book) (start : ℕ) (octets : List ℕ) (p : ℕ) (b : Bool)
       → book-sums reads s against places (noted book start octets) p b ≡ sum-behind reads s against (book-sums reads s against places book p b) p b (laid reads places (8 * start) octets)
   unfolding book-sums
   noted-sum places book start octets p b =
       ap (sum-behind reads s against (s .zero) p b) (sym (joined-more (λ t. laid reads places (8 * t .start) (t .octets)) [] (book .takes) (record { start = start; octets = octets })))
-      ∙ sum-append (listed reads places book) (laid reads places (8 * start) octets) (s .zero) p b
+      ∙ sum-append reads s against (s .zero) p b (listed reads places book) (laid reads places (8 * start) octets)
 
   empty-sum : (places p : ℕ) (b : Bool) → book-sums reads s against places empty p b ≡ s .zero
   unfolding book-sums

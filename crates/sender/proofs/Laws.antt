@@ -1,16 +1,13 @@
--- Laws of rounds, and of what a copy writes. Assumes nothing.
+-- Laws of rounds, and of a copy that is performed. Assumes nothing.
 use mathlib.Core.Path.{_≡_, refl, sym, ap, _∙_}
-use mathlib.Core.List.{List, [], _∷_, _++_, map}
+use mathlib.Core.List.{List}
 use Prim.Native.Nat.{ℕ, _+_, _%_, _<_}
 use native.Mathlib.Nat.{mod-add-mod, mod-eq-of-lt, mod-self, mod-lt}
 use native.Mathlib.Omega.{arith}
-use lib.ListN.{length, take, drop, set, getD}
-use Rattle.std.specs.Iters.{counting}
+use lib.ListN.{length, take}
 use Rattle.std.specs.declared.option.Option.the-variants.{None}
 use Rattle.std.specs.declared.result.Result.{Result}
 use Rattle.std.specs.declared.result.Result.the-variants.{Ok, Err}
-use Rattle.std.proofs.shelf.Counted.{map-counting-more, length-map-counting}
-use Rattle.std.proofs.shelf.Lists.{set-at, drop-more, append-assoc}
 use Rattle.block.specs.Refusals.{first-refusal}
 use Rattle.sender.specs.declared.PassageRefusal.{PassageRefusal}
 use Rattle.sender.specs.Passages.{Guard, onward, copy-checks, Copy-does}
@@ -26,16 +23,6 @@ step-inside s n some other =
 -- one octet on from a round's last octet
 pub step-over : (s n : ℕ) → s % n + 1 ≡ n → 0 ≡ (s + 1) % n
 step-over s n e = sym (mod-self n) ∙ ap (λ m. m % n) (sym e) ∙ mod-add-mod s n 1
-
--- one more element of a list's front is written
-pub front-more : (f : ℕ → ℕ) (target : List ℕ) (i : ℕ) → i < length target → set (map f (counting 0 i) ++ drop i target) i (f i) ≡ map f (counting 0 (i + 1)) ++ drop (i + 1) target
-front-more f target i h =
-    let front = map f (counting 0 i) in
-    let rest = drop (i + 1) target in
-    ap (λ xs. set (front ++ xs) i (f i)) (drop-more target i 0 h)
-    ∙ set-at front (getD target i 0) rest (f i) i (length-map-counting f 0 i)
-    ∙ sym (append-assoc front (f i ∷ []) rest)
-    ∙ ap (λ xs. xs ++ rest) (sym (map-counting-more f 0 i i (omega arith)))
 
 -- a copy that no check refuses is performed
 pub granted : (buffer target target′ : List ℕ) (count : ℕ) (g g′ : Guard) (r : Result Unit PassageRefusal)

@@ -42,7 +42,8 @@ module _ {A : Type 0} (reads : ℕ → Option A) where
   laid-one places k x xs = one-by (reads x) (k % places) (laid reads places (suc k) xs)
 
   module _ {V : Type 0} (s : Scale V) (against : A → Bool → V) where
-    sum-append : (w : s .Meaning) (p : ℕ) (b : Bool) (xs ys : List (ℕ × A))
+    -- more symbols are added behind those before
+    pub sum-append : (w : s .Meaning) (p : ℕ) (b : Bool) (xs ys : List (ℕ × A))
         → sum-behind reads s against w p b (xs ++ ys) ≡ sum-behind reads s against (sum-behind reads s against w p b xs) p b ys
     sum-append w p b [] ys = refl
     sum-append w p b (x ∷ xs) ys = sum-append (cond (eqb (x .0) p) (s .plus w (s .mean (against (x .1) b))) w) p b xs ys

@@ -5,7 +5,8 @@ use native.Mathlib.Nat.{add-assoc}
 use native.Mathlib.Omega.{arith}
 use lib.ListN.{length, drop, set, getD}
 use Rattle.sender.specs.Passages.{sent}
-use Rattle.sender.proofs.Laws.{step-inside, step-over, front-more}
+use Rattle.block.proofs.Laws.{front-more}
+use Rattle.sender.proofs.Laws.{step-inside, step-over}
 use Rattle.sender.proofs.passages.copy_round.Needs as need
 use Rattle.sender.proofs.passages.copy_round.Needs.{then-at-octets, else-at-octets}
 
