@@ -1,4 +1,6 @@
 // A coded report's block: its sizes, its octets as bits, and its check field.
+#![tactic(auto)]
+
 ghost use Rattle.std.specs.Prelude.{◌≡◌, ℕ, ◌%◌, ◌<◌, ◌≤◌};
 
 mod bits;

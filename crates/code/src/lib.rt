@@ -1,4 +1,6 @@
 // The convolutional code: its register, its columns, and a coded report's buffer.
+#![tactic(auto)]
+
 ghost use Rattle.std.specs.Prelude.{◌≡◌, ◌<◌, true};
 ghost use Rattle.code.specs.Columns.{is_order};
 

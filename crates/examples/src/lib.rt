@@ -1,4 +1,6 @@
 // Worked examples of blocks and code, each proved safe and then run.
+#![tactic(auto)]
+
 #[cfg(test)]
 mod tests {
     use block::{PlanRefusal, back, check_field, plan};

@@ -1,4 +1,6 @@
 // What holds of whole runs of sheets and senders, for every reading.
+#![tactic(auto)]
+
 ghost use Rattle.std.specs.Prelude.{◌≡◌};
 ghost use Rattle.nearest.specs.Undamaged.{DecodesWhatWasSent};
 ghost use Rattle.nearest.specs.Whole.{NearestMessage};

@@ -1,4 +1,6 @@
 // One report from beginning to end: encoded, sent, heard through a bad channel, and decoded.
+#![tactic(auto)]
+
 mod channel;
 mod hearing;
 mod hex;

@@ -1,4 +1,6 @@
 // The search for the nearest message over the entries of a tally, for any weighing. It knows no sheet.
+#![tactic(auto)]
+
 mod back;
 mod costs;
 mod find;

@@ -1,4 +1,6 @@
 // A sender hands a block's buffer on in pieces, round after round, and takes back what was not confirmed.
+#![tactic(auto)]
+
 ghost use Rattle.sender.specs.Passages.{GiveUpDoes, held};
 
 mod passages;

@@ -1,4 +1,6 @@
 // A tally sheet lays all received symbols of one report on the places of its buffer, and names the nearest message.
+#![tactic(auto)]
+
 ghost use Rattle.std.specs.Prelude.{◌≤◌};
 
 mod entries;

@@ -1,4 +1,6 @@
 // Weighings say how weights add and compare. Readings weigh received symbols against bits.
+#![tactic(auto)]
+
 ghost use Rattle.std.specs.Prelude.{◌≡◌, ℕ, Bool, ◌⊎◌, Decides, Option};
 ghost use Rattle.weighing.specs.Scales.{Scale};
 
