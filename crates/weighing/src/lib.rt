@@ -49,9 +49,9 @@ pub trait Reading: Weighing {
 // The lighter of two weights, and the first if they weigh the same.
 pub fn lighter<W: Weighing>(a: W::Value, b: W::Value) -> W::Value
     ensures either { (result ≡ a) ⊎ (result ≡ b) }
-    ensures first { scale.atmost (scale.mean a) (scale.mean b) → result ≡ a }
-    ensures below_a { scale.atmost (scale.mean result) (scale.mean a) }
-    ensures below_b { scale.atmost (scale.mean result) (scale.mean b) }
+    ensures first { W.scale.atmost (W.scale.mean a) (W.scale.mean b) → result ≡ a }
+    ensures below_a { W.scale.atmost (W.scale.mean result) (W.scale.mean a) }
+    ensures below_b { W.scale.atmost (W.scale.mean result) (W.scale.mean b) }
 {
     if W::at_most(a, b) { a } else { b }
 }

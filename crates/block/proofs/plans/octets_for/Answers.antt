@@ -7,9 +7,9 @@ pub loop-octets-init : goal.loop-octets-init
 unfolding some_size
 loop-octets-init c = refl
 
-pub returns-then-payload-at-p : goal.returns-then-payload-at-p
-returns-then-payload-at-p c =
-    let e = sym c.payload-at.ensures ∙ c.if-payload-at-p.true in (
+pub returns-then-payload_at-p : goal.returns-then-payload_at-p
+returns-then-payload_at-p c =
+    let e = sym c.payload_at.ensures ∙ c.if-payload_at-p.true in (
       some_size_at 512 _ _ _ _ (omega arith) (omega arith) e,
       record {
         within = search rules;
@@ -20,4 +20,4 @@ returns-then-payload-at-p c =
 
 pub loop-octets-preserved : goal.loop-octets-preserved
 loop-octets-preserved c =
-    some_size_more (c.loop-octets.octets - 1) _ c.args.p _ _ (omega arith) c.loop-octets.invariant (λ e. c.if-payload-at-p.false (c.payload-at.ensures ∙ e))
+    some_size_more (c.loop-octets.octets - 1) _ c.args.p _ _ (omega arith) c.loop-octets.invariant (λ e. c.if-payload_at-p.false (c.payload_at.ensures ∙ e))

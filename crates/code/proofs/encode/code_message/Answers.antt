@@ -10,8 +10,8 @@ loop-t-init c = record { steps_are = refl; cells_are = c.requires.0 }
 pub loop-t-preserved : goal.loop-t-preserved
 loop-t-preserved c =
     noted_more cleared (report_bit c.args.report.now c.args.size.octets c.args.size.check) c.loop-t.steps c.loop-t.t
-    (cells c.loop-t.register) (cells c.push.new.self) c.message-bit.result c.push.result (omega arith) c.loop-t.invariant
-    c.message-bit.ensures c.push.ensures.answer c.push.ensures.after
+    (cells c.loop-t.register) (cells c.push.new.self) c.message_bit.result c.push.result (omega arith) c.loop-t.invariant
+    c.message_bit.ensures c.push.ensures.answer c.push.ensures.after
 
 pub returns : goal.returns
 returns c =

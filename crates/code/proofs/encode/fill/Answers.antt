@@ -9,6 +9,6 @@ pub loop-b-preserved : goal.loop-b-preserved
 loop-b-preserved c =
     let f : ℕ → ℕ = λ b. octet_of (λ i. place_bit c.args.order.now.columns c.args.n c.args.steps.now (8 * b + i)) in
     let b = c.loop-b.b in
-    ap (λ xs. set xs b c.buffer-octet.result) c.loop-b.invariant
-    ∙ ap (set (map f (range_with_len 0 b) ++ drop b c.args.buffer.now) b) c.buffer-octet.ensures
+    ap (λ xs. set xs b c.buffer_octet.result) c.loop-b.invariant
+    ∙ ap (set (map f (range_with_len 0 b) ++ drop b c.args.buffer.now) b) c.buffer_octet.ensures
     ∙ front_more f c.args.buffer.now b (omega arith)

@@ -24,5 +24,5 @@ returns c =
     let n = c.args.n in
     let p = c.args.p in
     let column = column_at order n p in
-    c.output-of.ensures
+    c.output_of.ensures
     ∙ sym (ap (λ own. output (cond own 1 (column / 8 + 2)) (get_or c.args.steps.now (cond own p (8 * row_at n p + column % 8)) silent.outputs)) (le-ltb p (8 * n) c.if-p-n.false))

@@ -6,4 +6,4 @@ use Rattle.code.proofs.peek.run_bits.Goals as goal
 
 pub loop-t-preserved : goal.loop-t-preserved
 loop-t-preserved c =
-    c.push.ensures.after ∙ (λ i. next (c.loop-t.invariant i) (c.bit-at.ensures i)) ∙ sym (after_more cleared (bit_at c.args.received.now) c.loop-t.t)
+    c.push.ensures.after ∙ (λ i. next (c.loop-t.invariant i) (c.bit_at.ensures i)) ∙ sym (after_more cleared (bit_at c.args.received.now) c.loop-t.t)

@@ -11,13 +11,13 @@ use Rattle.code.proofs.peek.tail_fits.Goals.{After-close-tail}
 tail_bit : (c : After-close-tail) (i : ℕ) → i < 4 → (get_or c.close-tail.result i silent.outputs).v1 ≡ get_or (tail (after cleared (bits_of c.args.received.now c.args.bits))) i false
 tail_bit c i h =
     ap (λ xs. (get_or xs i silent.outputs).v1) c.close-tail.ensures.answer
-    ∙ trace_own (cells c.run-bits.new.register) (tail (cells c.run-bits.new.register)) i h
-    ∙ ap (λ m. get_or (tail m) i false) c.run-bits.ensures
+    ∙ trace_own (cells c.run_bits.new.register) (tail (cells c.run_bits.new.register)) i h
+    ∙ ap (λ m. get_or (tail m) i false) c.run_bits.ensures
 
-pub returns-then-bit-at-tail : goal.returns-then-bit-at-tail
-returns-then-bit-at-tail c = (
+pub returns-then-bit_at-tail : goal.returns-then-bit_at-tail
+returns-then-bit_at-tail c = (
   λ e. absurd (false≢true e),
-  λ fits. absurd (differ _ _ c.if-bit-at-tail.true (c.bit-at.ensures ∙ fits c.loop-i.i c.loop-i-test.true ∙ sym (tail_bit (goal.at.returns-then-bit-at-tail c).After-close-tail c.loop-i.i c.loop-i-test.true))),
+  λ fits. absurd (differ _ _ c.if-bit_at-tail.true (c.bit_at.ensures ∙ fits c.loop-i.i c.loop-i-test.true ∙ sym (tail_bit (goal.at.returns-then-bit_at-tail c).After-close-tail c.loop-i.i c.loop-i-test.true))),
 )
 
 pub returns : goal.returns

@@ -11,12 +11,12 @@ loop-i-preserved c =
     let above = c.loop-i.i in
     let i = above - 1 in
     let sv = c.args.survivors.now in
-    let back = c.step-back-back.result in (
-      c.step-back-back.ensures.small,
+    let back = c.step_back-back.result in (
+      c.step_back-back.ensures.small,
       length-set c.loop-i.bits i back.bit ∙ c.loop-i.invariant.1,
       λ bits within traced.
           let before = c.loop-i.invariant.2 bits within traced in
-          let more = back_more sv bits (8 * b + above) (8 * b + i) c.loop-i.state back.state back.bit (omega arith) (omega arith) c.step-back-back.ensures.state c.step-back-back.ensures.bit before.0 in
+          let more = back_more sv bits (8 * b + above) (8 * b + i) c.loop-i.state back.state back.bit (omega arith) (omega arith) c.step_back-back.ensures.state c.step_back-back.ensures.bit before.0 in
           (more.0, right_more c.loop-i.bits (λ k. get_or bits (8 * b + k) false) 8 above i back.bit false (omega arith) (omega (arith, c.loop-i.invariant.1)) before.1 more.1),
     )
 

@@ -24,10 +24,10 @@ loop-b-preserved c =
     let n = c.args.n in
     let sv = c.args.survivors.now in
     let bits = reverse (origin sv (8 * n) 0) in
-    let back = c.octet-back-back.result in
+    let back = c.octet_back-back.result in
     let up : 8 * above ≡ 8 * b + 8 = omega arith in
-    let traced = c.octet-back-back.ensures.traced bits (omega (arith, long sv n)) (subst (λ t. reverse (origin sv t c.loop-b.state) ≡ take t bits) up c.loop-b.invariant.1) in (
-      c.octet-back-back.ensures.small,
+    let traced = c.octet_back-back.ensures.traced bits (omega (arith, long sv n)) (subst (λ t. reverse (origin sv t c.loop-b.state) ≡ take t bits) up c.loop-b.invariant.1) in (
+      c.octet_back-back.ensures.small,
       traced.1,
       right_more c.loop-b.target (λ k. octet_of (λ i. get_or bits (8 * k + i) false)) n above b back.octet 0 (omega arith) (omega arith) c.loop-b.invariant.2 traced.0,
       drop-set-lt n c.loop-b.target b back.octet (omega arith) ∙ c.loop-b.invariant.3,

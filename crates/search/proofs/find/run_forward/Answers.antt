@@ -4,7 +4,7 @@ use Rattle.search.proofs.find.run_forward.Goals as goal
 
 pub returns : goal.returns
 returns g c = record {
-  traced = c.run-halves.ensures.traced;
-  later = c.run-halves.ensures.later;
-  rest = drop_at c.run-halves.new.paths _ 32 (omega arith);
+  traced = c.run_halves.ensures.traced;
+  later = c.run_halves.ensures.later;
+  rest = drop_at c.run_halves.new.paths _ 32 (omega arith);
 }

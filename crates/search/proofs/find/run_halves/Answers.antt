@@ -15,7 +15,7 @@ module _ (g : given.Over) (c : After-index-even-0 g) (bits : ℕ) (e : bits + 4 
       let s = g.W.Weighing.scale in
       let n = c.args.n in
       let even : eqb (8 * n % 2) 0 ≡ true = eq-eqb _ 0 (omega arith) in
-      let all = c.forward.ensures.best c.args.order.now.columns c.column-places-places.ensures.columns in
+      let all = c.forward.ensures.best c.args.order.now.columns c.column_places-places.ensures.columns in
       subst (λ t. Best s c.args.order.now.columns n (entry_sums s c.args.tally.now) c.forward.new.survivors c.forward.new.even t) (sym e)
       (subst (λ b. Best s c.args.order.now.columns n (entry_sums s c.args.tally.now) c.forward.new.survivors (cond b c.forward.new.even c.forward.new.odd) (8 * n)) even all)
 

@@ -16,7 +16,7 @@ returns g c =
     let word = c.settle.result in
     record {
       best = λ order columns best.
-          let same : entries_cost s c.entries-at-entries.result ≡ step_weight s order n sums t = λ i v. c.entries-at-entries.ensures order columns v i in
+          let same : entries_cost s c.entries_at-entries.result ≡ step_weight s order n sums t = λ i v. c.entries_at-entries.ensures order columns v i in
           subst (λ m. Best s order n sums (set before t word) c.settle.new.new m) (sym (add-one t))
           (best_more s order n sums before (set before t word) c.args.from.now c.settle.new.new t word best
           (λ k h. get_or-set_other before t k word 0 (λ e. omega arith))

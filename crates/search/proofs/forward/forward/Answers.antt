@@ -15,8 +15,8 @@ pub loop-t-preserved : goal.loop-t-preserved
 loop-t-preserved g c = (
   λ order columns. c.turn.ensures.best order columns (c.loop-t.invariant.0 order columns),
   c.turn.ensures.later c.args.steps c.loop-t-test.true ∙ c.loop-t.invariant.1,
-  c.turn.ensures.even-rest ∙ c.loop-t.invariant.2,
-  c.turn.ensures.odd-rest ∙ c.loop-t.invariant.3,
+  c.turn.ensures.even_rest ∙ c.loop-t.invariant.2,
+  c.turn.ensures.odd_rest ∙ c.loop-t.invariant.3,
 )
 
 pub returns : goal.returns
@@ -26,6 +26,6 @@ returns g c =
     record {
       best = λ order columns. subst (λ t. Best s order c.args.n (entry_sums s c.args.tally.now) c.loop-t.survivors (half t c.loop-t.even c.loop-t.odd) t) end (c.loop-t.invariant.0 order columns);
       later = c.loop-t.invariant.1;
-      even-rest = c.loop-t.invariant.2 ∙ c.begin.ensures.rest;
-      odd-rest = c.loop-t.invariant.3;
+      even_rest = c.loop-t.invariant.2 ∙ c.begin.ensures.rest;
+      odd_rest = c.loop-t.invariant.3;
     }

@@ -6,4 +6,4 @@ use Rattle.search.proofs.forward.input_to.Goals as goal
 
 pub returns : goal.returns
 unfolding input
-returns c = sum_is c.bit-of.result c.feedback.result ∙ (λ i. c.bit-of.ensures i ⊕ c.feedback.ensures i)
+returns c = sum_is c.bit_of.result c.feedback.result ∙ (λ i. c.bit_of.ensures i ⊕ c.feedback.ensures i)

@@ -28,7 +28,7 @@ returns-in-Some g c =
     let k = c.args.state in
     let p = predecessor c.args.odd k in
     let at = c.predecessor-from.ensures.is in
-    let cost = c.cost-of.ensures ∙ ap (entries_cost s c.args.entries) (c.step-from-step.ensures.outputs ∙ ap (outputs (cells_of c.predecessor-from.result)) c.input-to.ensures) in
+    let cost = c.cost_of.ensures ∙ ap (entries_cost s c.args.entries) (c.step_from-step.ensures.outputs ∙ ap (outputs (cells_of c.predecessor-from.result)) c.input_to.ensures) in
     let there = ap (λ q. entries_cost s c.args.entries (outputs (cells_of q) (input q k))) at in
     ap Some (c.sum.ensures ∙ ap (s.plus (s.mean c.in-Some.weight)) (cost ∙ there))
     ∙ ap (λ x. behind s x (entries_cost s c.args.entries (outputs (cells_of p) (input p k)))) (sym (ap (option_map s.mean) c.in-Some.is) ∙ came_is g (goal.at.returns-in-Some g c).After-index-old-from)

@@ -20,8 +20,8 @@ returns-then-t-eq0 g c =
           subst (λ b. Best s order n sums c.advance.new.survivors (cond b c.args.even.now c.advance.new.to) (t + 1)) (sym next)
           (c.advance.ensures.best order columns (subst (λ b. Best s order n sums c.args.survivors.now (cond b c.args.even.now c.args.odd.now) t) here best));
       later = c.advance.ensures.later;
-      even-rest = refl;
-      odd-rest = c.advance.ensures.rest;
+      even_rest = refl;
+      odd_rest = c.advance.ensures.rest;
     }
 
 pub returns-else-t-eq0 : goal.returns-else-t-eq0
@@ -38,6 +38,6 @@ returns-else-t-eq0 g c =
           subst (λ b. Best s order n sums c.advance-else-t-eq0.new.survivors (cond b c.advance-else-t-eq0.new.to c.args.odd.now) (t + 1)) (sym next)
           (c.advance-else-t-eq0.ensures.best order columns (subst (λ b. Best s order n sums c.args.survivors.now (cond b c.args.even.now c.args.odd.now) t) here best));
       later = c.advance-else-t-eq0.ensures.later;
-      even-rest = c.advance-else-t-eq0.ensures.rest;
-      odd-rest = refl;
+      even_rest = c.advance-else-t-eq0.ensures.rest;
+      odd_rest = refl;
     }

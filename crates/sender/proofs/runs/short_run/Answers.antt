@@ -57,8 +57,8 @@ returns c =
     let g' = held c.begin-second.result in
     let begun' : BeginDoes 1 4 cursor g' = begins s c.size-2.result cursor g' made_so c.size-2.ensures c.begin-second.ensures.does in
     let tried = next none (0 ∷ 0 ∷ []) c.copy-3.new.target 2 (held c.copy-3.new.self) c.copy-3.result c.copy-3.ensures.does in
-    let cursor' = c.give-up.new.self.0 in
-    let run : Run 1 4 buffer cursor' target' 3 = given_up after begun' tried cursor' c.give-up.ensures in
+    let cursor' = c.give_up.new.self.0 in
+    let run : Run 1 4 buffer cursor' target' 3 = given_up after begun' tried cursor' c.give_up.ensures in
     record {
       run = run;
       kept = run_sent 1 4 buffer cursor' target' 3 run;

@@ -5,11 +5,11 @@ use Rattle.sheet.proofs.entries.clear.Goals as goal
 
 pub loop-place-preserved : goal.loop-place-preserved
 loop-place-preserved g c =
-    let zero = c.zero-entry.result in
+    let zero = c.zero_entry.result in
     let tally = c.loop-place.tally in
     let place = c.loop-place.place in (
       ap (drop (32 * c.args.n)) c.put.ensures ∙ drop-set-lt (32 * c.args.n) tally place zero (omega arith) ∙ c.loop-place.invariant.0,
-      zeros_more g.W.Weighing.scale tally c.put.new.tally place zero (omega arith) c.put.ensures c.zero-entry.ensures c.loop-place.invariant.1,
+      zeros_more g.W.Weighing.scale tally c.put.new.tally place zero (omega arith) c.put.ensures c.zero_entry.ensures c.loop-place.invariant.1,
     )
 
 pub returns : goal.returns

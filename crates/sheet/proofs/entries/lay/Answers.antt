@@ -9,8 +9,8 @@ loop-octet-init g c =
 pub loop-octet-preserved : goal.loop-octet-preserved
 loop-octet-preserved g c =
     laying_more g.R.Reading.reads g.R.Weighing.scale g.R.Reading.against c.args.n c.args.start c.args.octets.now c.args.tally.now
-    c.loop-octet.octet-index c.loop-octet.place c.next-place-place.result c.loop-octet.tally c.lay-octet.new.tally
-    c.loop-octet-test.true c.loop-octet.invariant c.lay-octet.ensures c.next-place-place.ensures.within c.next-place-place.ensures.is
+    c.loop-octet.octet-index c.loop-octet.place c.next_place-place.result c.loop-octet.tally c.lay_octet.new.tally
+    c.loop-octet-test.true c.loop-octet.invariant c.lay_octet.ensures c.next_place-place.ensures.within c.next_place-place.ensures.is
 
 pub returns : goal.returns
 returns g c =

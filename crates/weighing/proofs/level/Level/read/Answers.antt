@@ -6,5 +6,5 @@ use Rattle.weighing.proofs.Levels.{level_is}
 use Rattle.weighing.specs.Levels.{signed}
 use Rattle.weighing.proofs.level.Level.read.Goals as goal
 
-pub returns-in-default : goal.returns-in-default
-returns-in-default c = level_is _ (signed c.args.octet) (grind (arith, ints, nat_tests))
+pub returns-in_default : goal.returns-in_default
+returns-in_default c = level_is _ (signed c.args.octet) (grind (arith, ints, nat_tests))
