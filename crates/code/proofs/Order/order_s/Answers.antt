@@ -2,9 +2,9 @@ use Rattle.std.proofs.Common.{refl}
 use Rattle.code.specs.Columns.{is_order, follows_masks}
 use Rattle.code.proofs.Order.order_s.Goals as goal
 
-pub invariant-of-result : goal.invariant-of-result
+pub invariant_of-result : goal.invariant_of-result
 unfolding is_order
-invariant-of-result c = (refl, tt)
+invariant_of-result c = record { each = refl }
 
 -- the one computed proof that the constant is what the masks say
 pub returns : goal.returns
