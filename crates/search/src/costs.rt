@@ -18,7 +18,7 @@ fn entry_side<V: Copy>(entry: Entry<V>, bit: bool) -> V
 
 // What a step weighs if these are its outputs.
 pub(crate) fn cost_of<W: Weighing>(entries: StepEntries<W::Value>, outputs: Outputs) -> W::Value
-    ensures { scale.mean result ≡ entries_cost scale entries outputs }
+    ensures { W.scale.mean result ≡ entries_cost W.scale entries outputs }
 {
     let first = W::sum(
         entry_side(entries.v1, outputs.v1),
@@ -61,7 +61,7 @@ fn output_place(places: &[usize; 24], n: usize, band: usize, t: usize) -> usize
 
 fn entry_at<W: Weighing>(tally: &[Entry<W::Value>], place: usize) -> Entry<W::Value>
     requires { place < length tally.now }
-    ensures { (b : Bool) → scale.mean (side b result) ≡ entry_sums scale tally.now place b }
+    ensures { (b : Bool) → W.scale.mean (side b result) ≡ entry_sums W.scale tally.now place b }
 {
     tally[place]
 }
@@ -74,7 +74,7 @@ pub(crate) fn entries_at<W: Weighing>(
     t: usize,
 ) -> StepEntries<W::Value>
     requires { (WithinBuffer n places.now) × ((n ≤ 516) × ((t < 8 * n) × (32 * n ≤ length tally.now))) }
-    ensures { (order : List ℕ) → ColumnPlaces order n places.now → (v : Step-out) → entries_cost scale result v ≡ step_weight scale order n (entry_sums scale tally.now) t v }
+    ensures { (order : List ℕ) → ColumnPlaces order n places.now → (v : Step-out) → entries_cost W.scale result v ≡ step_weight W.scale order n (entry_sums W.scale tally.now) t v }
 {
     StepEntries {
         v1: entry_at::<W>(tally, t),

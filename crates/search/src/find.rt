@@ -29,7 +29,7 @@ fn run_halves<W: Weighing>(
     paths: &mut [Option<W::Value>],
 ) -> W::Value
     requires { (n ≤ 516) × ((1 ≤ n) × ((32 * n ≤ length tally.now) × ((8 * n ≤ length survivors.old) × (32 ≤ length paths.old)))) }
-    ensures traced { (bits : ℕ) → bits + 4 ≡ 8 * n → Traced scale order.now.columns n (entry_sums scale tally.now) survivors.new bits (scale.mean result) }
+    ensures traced { (bits : ℕ) → bits + 4 ≡ 8 * n → Traced W.scale order.now.columns n (entry_sums W.scale tally.now) survivors.new bits (W.scale.mean result) }
     ensures later { drop (8 * n) survivors.new ≡ drop (8 * n) survivors.old }
 {
     let places = column_places(order, n);
@@ -52,7 +52,7 @@ fn run_forward<W: Weighing>(
     paths: &mut [Option<W::Value>],
 ) -> W::Value
     requires { (n ≤ 516) × ((1 ≤ n) × ((32 * n ≤ length tally.now) × ((8 * n ≤ length survivors.old) × (32 ≤ length paths.old)))) }
-    ensures traced { (bits : ℕ) → bits + 4 ≡ 8 * n → Traced scale order.now.columns n (entry_sums scale tally.now) survivors.new bits (scale.mean result) }
+    ensures traced { (bits : ℕ) → bits + 4 ≡ 8 * n → Traced W.scale order.now.columns n (entry_sums W.scale tally.now) survivors.new bits (W.scale.mean result) }
     ensures later { drop (8 * n) survivors.new ≡ drop (8 * n) survivors.old }
     ensures rest { drop 32 paths.new ≡ drop 32 paths.old }
 {
@@ -69,7 +69,7 @@ pub fn find_nearest<W: Weighing>(
     survivors: &mut [u16],
     paths: &mut [Option<W::Value>],
 ) -> Result<Found<W::Value>, FindRefusal>
-    ensures { FindDoes scale size.octets size.check order.now.columns tally.now target.old target.new survivors.old survivors.new paths.old paths.new result }
+    ensures { FindDoes W.scale size.octets size.check order.now.columns tally.now target.old target.new survivors.old survivors.new paths.old paths.new result }
 {
     let n = size.block_octets();
     if tally.len() < 32 * n || target.len() < n || survivors.len() < 8 * n || paths.len() < 32 {

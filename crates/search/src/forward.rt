@@ -35,7 +35,7 @@ fn through<W: Weighing>(
     state: u8,
 ) -> Option<W::Value>
     requires { (state < 16) × (16 ≤ length old.now) }
-    ensures { option_map scale.mean result ≡ thro scale (entries_cost scale entries) old.now odd state }
+    ensures { option_map W.scale.mean result ≡ thro W.scale (entries_cost W.scale entries) old.now odd state }
 {
     let from = predecessor(odd, state);
     let came = old[from as usize];
@@ -50,7 +50,7 @@ fn through<W: Weighing>(
 
 // Whether the second path weight is the lighter; one that is absent is heavier than every other.
 fn is_lighter<W: Weighing>(first: Option<W::Value>, second: Option<W::Value>) -> bool
-    ensures { MatchBool result (Lighter scale (option_map scale.mean second) (option_map scale.mean first)) (Lighter scale (option_map scale.mean first) (option_map scale.mean second)) }
+    ensures { MatchBool result (Lighter W.scale (option_map W.scale.mean second) (option_map W.scale.mean first)) (Lighter W.scale (option_map W.scale.mean first) (option_map W.scale.mean second)) }
 {
     match second {
         None => false,
@@ -68,7 +68,7 @@ fn arrive<W: Weighing>(
     state: u8,
 ) -> Arrival<W::Value>
     requires { (state < 16) × (16 ≤ length old.now) }
-    ensures { Settled scale (entries_cost scale entries) old.now (option_map scale.mean result.weight) result.odd state }
+    ensures { Settled W.scale (entries_cost W.scale entries) old.now (option_map W.scale.mean result.weight) result.odd state }
 {
     let even = through::<W>(entries, old, false, state);
     let odd = through::<W>(entries, old, true, state);
@@ -99,7 +99,7 @@ fn settle<W: Weighing>(
     new: &mut [Option<W::Value>],
 ) -> u16
     requires { (16 ≤ length old.now) × (16 ≤ length new.old) }
-    ensures settled { (k : ℕ) → k < 16 → Settled scale (entries_cost scale entries) old.now (meant scale new.new k) (bit k result) k }
+    ensures settled { (k : ℕ) → k < 16 → Settled W.scale (entries_cost W.scale entries) old.now (meant W.scale new.new k) (bit k result) k }
     ensures rest { drop 16 new.new ≡ drop 16 new.old }
 {
     let mut word: u16 = 0;
@@ -114,7 +114,7 @@ fn settle<W: Weighing>(
 // Before the first step only state 0 is reached, with weight zero.
 fn begin<W: Weighing>(paths: &mut [Option<W::Value>])
     requires { 16 ≤ length paths.old }
-    ensures best { (order : List ℕ) (n : ℕ) (sums : Sums scale) (survivors : List ℕ) → Best scale order n sums survivors paths.new 0 }
+    ensures best { (order : List ℕ) (n : ℕ) (sums : Sums W.scale) (survivors : List ℕ) → Best W.scale order n sums survivors paths.new 0 }
     ensures rest { drop 16 paths.new ≡ drop 16 paths.old }
 {
     for state in 0..16 {
@@ -135,7 +135,7 @@ fn advance<W: Weighing>(
 )
     requires block { (WithinBuffer n places.now) × ((n ≤ 516) × ((t < 8 * n) × (32 * n ≤ length tally.now))) }
     requires room { (t < length survivors.old) × ((16 ≤ length from.now) × (16 ≤ length to.old)) }
-    ensures best { (order : List ℕ) → ColumnPlaces order n places.now → Best scale order n (entry_sums scale tally.now) survivors.old from.now t → Best scale order n (entry_sums scale tally.now) survivors.new to.new (t + 1) }
+    ensures best { (order : List ℕ) → ColumnPlaces order n places.now → Best W.scale order n (entry_sums W.scale tally.now) survivors.old from.now t → Best W.scale order n (entry_sums W.scale tally.now) survivors.new to.new (t + 1) }
     ensures later { (m : ℕ) → t < m → drop m survivors.new ≡ drop m survivors.old }
     ensures rest { drop 16 to.new ≡ drop 16 to.old }
 {
@@ -155,7 +155,7 @@ fn turn<W: Weighing>(
 )
     requires block { (WithinBuffer n places.now) × ((n ≤ 516) × ((t < 8 * n) × (32 * n ≤ length tally.now))) }
     requires room { (t < length survivors.old) × ((16 ≤ length even.old) × (16 ≤ length odd.old)) }
-    ensures best { (order : List ℕ) → ColumnPlaces order n places.now → Best scale order n (entry_sums scale tally.now) survivors.old (half t even.old odd.old) t → Best scale order n (entry_sums scale tally.now) survivors.new (half (t + 1) even.new odd.new) (t + 1) }
+    ensures best { (order : List ℕ) → ColumnPlaces order n places.now → Best W.scale order n (entry_sums W.scale tally.now) survivors.old (half t even.old odd.old) t → Best W.scale order n (entry_sums W.scale tally.now) survivors.new (half (t + 1) even.new odd.new) (t + 1) }
     ensures later { (m : ℕ) → t < m → drop m survivors.new ≡ drop m survivors.old }
     ensures even_rest { drop 16 even.new ≡ drop 16 even.old }
     ensures odd_rest { drop 16 odd.new ≡ drop 16 odd.old }
@@ -179,7 +179,7 @@ pub(crate) fn forward<W: Weighing>(
 )
     requires block { (WithinBuffer n places.now) × ((n ≤ 516) × ((steps ≤ 8 * n) × (32 * n ≤ length tally.now))) }
     requires room { (steps ≤ length survivors.old) × ((16 ≤ length even.old) × (16 ≤ length odd.old)) }
-    ensures best { (order : List ℕ) → ColumnPlaces order n places.now → Best scale order n (entry_sums scale tally.now) survivors.new (half steps even.new odd.new) steps }
+    ensures best { (order : List ℕ) → ColumnPlaces order n places.now → Best W.scale order n (entry_sums W.scale tally.now) survivors.new (half steps even.new odd.new) steps }
     ensures later { drop steps survivors.new ≡ drop steps survivors.old }
     ensures even_rest { drop 16 even.new ≡ drop 16 even.old }
     ensures odd_rest { drop 16 odd.new ≡ drop 16 odd.old }

@@ -16,7 +16,7 @@ fn put<V: Copy + Drop>(tally: &mut [Entry<V>], place: usize, entry: Entry<V>)
 }
 
 fn zero_entry<W: Weighing>() -> Entry<W::Value>
-    ensures { (b : Bool) → scale.mean (side b result) ≡ scale.zero }
+    ensures { (b : Bool) → W.scale.mean (side b result) ≡ W.scale.zero }
 {
     Entry {
         zero: W::zero(),
@@ -27,7 +27,7 @@ fn zero_entry<W: Weighing>() -> Entry<W::Value>
 // Sets the entries of all places of a block of `n` octets to zero.
 pub(crate) fn clear<W: Weighing>(tally: &mut [Entry<W::Value>], n: usize)
     requires { (n ≤ 516) × (32 * n ≤ length tally.old) }
-    ensures { Cleared scale n tally.old tally.new }
+    ensures { Cleared W.scale n tally.old tally.new }
 {
     for place in 0..32 * n {
         put(tally, place, zero_entry::<W>());

@@ -30,7 +30,7 @@ impl<W: Weighing> Sheet<W> {
         order: Order,
         tally: &mut [Entry<W::Value>],
     ) -> Result<Sheet<W>, OpenRefusal>
-        ensures { OpenDoes scale octets check order.columns tally.old tally.new result }
+        ensures { OpenDoes W.scale octets check order.columns tally.old tally.new result }
     {
         let size = match Size::new(octets, check) {
             Ok(size) => size,
@@ -78,7 +78,7 @@ impl<W: Weighing> Sheet<W> {
         survivors: &mut [u16],
         paths: &mut [Option<W::Value>],
     ) -> Result<Found<W::Value>, FindRefusal>
-        ensures { FindDoes scale self.now.size.octets self.now.size.check self.now.order.columns tally.now target.old target.new survivors.old survivors.new paths.old paths.new result }
+        ensures { FindDoes W.scale self.now.size.octets self.now.size.check self.now.order.columns tally.now target.old target.new survivors.old survivors.new paths.old paths.new result }
     {
         find_nearest::<W>(self.size, &self.order, tally, target, survivors, paths)
     }

@@ -39,7 +39,7 @@ impl TakeRefusal {
 impl<W: Weighing> Sheet<W> {
     // Forgets all that was taken: the entries of its places and the count are zero again.
     pub fn wipe(&mut self, tally: &mut [Entry<W::Value>]) -> Result<(), WipeRefusal>
-        ensures does { WipeDoes scale (block_octets self.old.size.octets self.old.size.check) self.old.count self.new.count tally.old tally.new result }
+        ensures does { WipeDoes W.scale (block_octets self.old.size.octets self.old.size.check) self.old.count self.new.count tally.old tally.new result }
         ensures size { self.new.size ≡ self.old.size }
         ensures order { self.new.order ≡ self.old.order }
     {

@@ -3,18 +3,18 @@ use Rattle.code.specs.Columns.{index_of}
 use Rattle.code.proofs.Ordered.{order_index}
 use Rattle.search.proofs.Placing.{column_within}
 use Rattle.search.proofs.costs.column_place.Goals as goal
-use Rattle.search.proofs.costs.column_place.Goals.{After-index-of}
+use Rattle.search.proofs.costs.column_place.Goals.{After-index_of}
 
-ends_within : (c : After-index-of) → 8 * c.args.n + c.args.n * c.index_of.result + c.args.n ≤ 32 * c.args.n
+ends_within : (c : After-index_of) → 8 * c.args.n + c.args.n * c.index_of.result + c.args.n ≤ 32 * c.args.n
 ends_within c =
     column_within c.args.n c.index_of.result
     (omega (arith, c.index_of.ensures, (order_index c.args.order.now.columns c.args.order.now.each c.args.a c.requires.1).0))
 
-pub overflow-mul-result-2 : goal.overflow-mul-result-2
-overflow-mul-result-2 c = omega (arith, ends_within (goal.at.overflow-mul-result-2 c).After-index-of)
+pub overflow_mul-result-2 : goal.overflow_mul-result-2
+overflow_mul-result-2 c = omega (arith, ends_within (goal.at.overflow_mul-result-2 c).After-index_of)
 
-pub overflow-add-result : goal.overflow-add-result
-overflow-add-result c = omega (arith, ends_within (goal.at.overflow-add-result c).After-index-of)
+pub overflow_add-result : goal.overflow_add-result
+overflow_add-result c = omega (arith, ends_within (goal.at.overflow_add-result c).After-index_of)
 
 pub returns : goal.returns
-returns c = record { is = ap (λ i. 8 * c.args.n + c.args.n * i) c.index_of.ensures; within = ends_within (goal.at.returns c).After-index-of }
+returns c = record { is = ap (λ i. 8 * c.args.n + c.args.n * i) c.index_of.ensures; within = ends_within (goal.at.returns c).After-index_of }
