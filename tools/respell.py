@@ -13,7 +13,11 @@ import sys
 ROOT = pathlib.Path(__file__).resolve().parent.parent / 'crates'
 DECLARED = re.compile(
     r'^\s*(?:(?:abbrev|pub|unfoldable|record|data)\s+)*([^\s:(){}.,;]+)(?:\s*(?:\([^)]*\)|\{[^}]*\}))*\s*:\s*(.*)')
+RECORD = re.compile(r'^\s*(?:pub\s+)?(?:record|data)\s+([^\s:(){}.,;]+)')
 LET = re.compile(r'\blet ([^\s:(){}.,;=]+)')
+# another name for an import, and the names of a definition's arguments
+ALIAS = re.compile(r'\bas ([^\s:(){}.,;=]+)')
+ARGUMENTS = re.compile(r'^\s*[^\s:(){}.,;=]+((?: [^\s:.,;=]+)+) =')
 TOKEN = re.compile(r'[^\s(){}\[\],;.:|"«»@]+')
 
 
@@ -35,12 +39,16 @@ def declared():
     names = set()
     for path in files('.antt'):
         for line in path.read_text().splitlines():
-            if line.lstrip().startswith('--') or line.startswith('use '):
+            if line.lstrip().startswith('--'):
+                continue
+            names.update(ALIAS.findall(line))
+            if line.startswith('use '):
                 continue
             found = DECLARED.match(line)
             if found and not found.group(2).startswith('goal.'):
                 names.add(found.group(1))
-            names.update(LET.findall(line))
+            names.update(RECORD.findall(line) + LET.findall(line))
+            names.update(name for found in ARGUMENTS.findall(line) for name in TOKEN.findall(found))
     return names
 
 

@@ -10,9 +10,9 @@ use Rattle.code.specs.Register.{after, cleared, coded, tail}
 use Rattle.code.specs.declared.OrderRefusal.{OrderRefusal}
 use Rattle.code.specs.declared.OrderRefusal.TheVariants.{Columns}
 use Rattle.code.specs.declared.EncodeRefusal.{EncodeRefusal}
-use Rattle.code.specs.declared.EncodeRefusal.TheVariants.{Size as encode-size, Buffer}
+use Rattle.code.specs.declared.EncodeRefusal.TheVariants.{Size as encode_size, Buffer}
 use Rattle.code.specs.declared.PeekRefusal.{PeekRefusal}
-use Rattle.code.specs.declared.PeekRefusal.TheVariants.{Size as peek-size, Received, Target}
+use Rattle.code.specs.declared.PeekRefusal.TheVariants.{Size as peek_size, Received, Target}
 use Rattle.code.specs.declared.Peeked.{Peeked}
 
 abbrev pub order_number : OrderRefusal → ℕ
@@ -22,7 +22,7 @@ abbrev pub order_checks : List ℕ → List Check
 order_checks numbers = if_refuse (not (is_order numbers)) 4 ∷ []
 
 abbrev pub encode_number : EncodeRefusal → ℕ
-encode_number (encode-size e) = size_number e
+encode_number (encode_size e) = size_number e
 encode_number Buffer = 6
 
 -- a report of T octets, a check of L bits, and a buffer of so many octets
@@ -42,7 +42,7 @@ EncodeDoes report check order before after r =
     (after ≡ before) r
 
 abbrev pub peek_number : PeekRefusal → ℕ
-peek_number (peek-size e) = size_number e
+peek_number (peek_size e) = size_number e
 peek_number Received = 5
 peek_number Target = 6
 

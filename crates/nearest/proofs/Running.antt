@@ -12,7 +12,7 @@ use Rattle.sheet.specs.Books.{empty}
 use Rattle.sheet.specs.Calls.{OpenDoes, TakeDoes}
 use Rattle.sheet.specs.declared.Sheet.{Sheet}
 use Rattle.sheet.specs.declared.TakeRefusal.{TakeRefusal}
-use Rattle.nearest.specs.Runs.{Three-calls, after_take, called, decodes, opened, standing, takes}
+use Rattle.nearest.specs.Runs.{ThreeCalls, after_take, called, decodes, opened, standing, takes}
 
 module _ {V A : Type 0} (W : Type 0) (s : Scale V) (reads : ℕ → Option A) (against : A → Bool → V) where
   pub three_calls : (octets check : ℕ) (order columns : List ℕ) (tally₀ tally₁ tally₂ : List (Entry V)) (sheet after : Sheet W V)
@@ -21,7 +21,7 @@ module _ {V A : Type 0} (W : Type 0) (s : Scale V) (reads : ℕ → Option A) (a
       → after.size ≡ sheet.size → after.order ≡ sheet.order
       → (target target' words words' : List ℕ) (paths paths' : List (Option V)) (d : Result (Found V) FindRefusal)
       → FindDoes s after.size.octets after.size.check after.order.columns tally₂ target target' words words' paths paths' d
-      → Three-calls W s reads against octets check order start symbols tally₀ tally₂ target target' words words' paths paths' after r d
+      → ThreeCalls W s reads against octets check order start symbols tally₀ tally₂ target target' words words' paths paths' after r d
   three_calls octets check order columns tally₀ tally₁ tally₂ sheet after same does start symbols r take size ordered target target' words words' paths paths' d find =
       let made = does.1 in
       let t = made.octets_are in

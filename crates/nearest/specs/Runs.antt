@@ -3,6 +3,7 @@
 use Rattle.std.specs.Prelude.{◌≡◌, ℕ, Bool, List, Ok, Err, Option, Result}
 use Rattle.block.specs.Sizes.{block_octets}
 use Rattle.weighing.specs.Scales.{Scale}
+use Rattle.weighing.specs.declared.Weighing.{Ghosts}
 use Rattle.search.specs.Found.{FindDoes}
 use Rattle.search.specs.declared.Entry.{Entry}
 use Rattle.search.specs.declared.FindRefusal.{FindRefusal}
@@ -54,7 +55,7 @@ module _ {V A : Type 0} (W : Type 0) (s : Scale V) (reads : ℕ → Option A) (a
 
   -- a run begins at the call that opens the sheet
   pub data Run : Standing V → Type 0 where
-    opened : (st : Standing V) (tally : List (Entry V)) (sheet : Sheet W V) → OpenDoes s octets check order tally st.tally (Ok sheet)
+    opened : {g : Ghosts W V} (st : Standing V) (tally : List (Entry V)) (sheet : Sheet W V g) → OpenDoes s octets check order tally st.tally (Ok sheet)
         → st.count ≡ sheet.count → st.book ≡ empty → Run st
     called : {before : Standing V} (after : Standing V) → Run before → Call before after → Run after
 
@@ -64,10 +65,10 @@ module _ {V A : Type 0} (W : Type 0) (s : Scale V) (reads : ℕ → Option A) (a
     more : {before : Standing V} (after : Standing V) → Stretch from before → (call : Call before after) → NoWipe call → Stretch from after
 
   -- An opening, a take and a decode, one after another: what each did, how the sheet then is, and the run that they make.
-  pub record Three-calls (start : ℕ) (symbols : List ℕ) (tally tally' : List (Entry V)) (target target' words words' : List ℕ) (paths paths' : List (Option V))
-      (sheet : Sheet W V) (taken : Result ℕ TakeRefusal) (found : Result (Found V) FindRefusal) : Type 0 where
+  pub record ThreeCalls {g : Ghosts W V} (start : ℕ) (symbols : List ℕ) (tally tally' : List (Entry V)) (target target' words words' : List ℕ) (paths paths' : List (Option V))
+      (sheet : Sheet W V g) (taken : Result ℕ TakeRefusal) (found : Result (Found V) FindRefusal) : Type 0 where
     pub between : List (Entry V)
-    pub new_sheet : Sheet W V
+    pub new_sheet : Sheet W V g
     pub opening : OpenDoes s octets check order tally between (Ok new_sheet)
     pub taking : TakeDoes s reads against (block_octets octets check) new_sheet.count sheet.count between tally' start symbols taken
     pub decoding : FindDoes s octets check order tally' target target' words words' paths paths' found

@@ -6,6 +6,7 @@ use Rattle.block.specs.Sizes.{block_octets, payload}
 use Rattle.code.specs.Refused.{EncodeDoes}
 use Rattle.weighing.specs.Hard.{hard_reads, hard_weight}
 use Rattle.weighing.specs.Scales.{counted}
+use Rattle.weighing.specs.declared.Weighing.{Ghosts}
 use Rattle.search.specs.Found.{FindDoes}
 use Rattle.search.specs.declared.Entry.{Entry}
 use Rattle.search.specs.declared.Found.{Found}
@@ -22,7 +23,7 @@ abbrev pub DecodesWhatWasSent : (W : Type 0) → Type 0
 DecodesWhatWasSent W =
     (report : List ℕ) (check k : ℕ) (order before buffer : List ℕ) → k ≤ 24
     → EncodeDoes report check order before buffer (Ok tt)
-    → (tally opened taken : List (Entry ℕ)) (sheet : Sheet W ℕ) → OpenDoes counted (length report) check order tally opened (Ok sheet)
+    → {g : Ghosts W ℕ} → (tally opened taken : List (Entry ℕ)) (sheet : Sheet W ℕ g) → OpenDoes counted (length report) check order tally opened (Ok sheet)
     → (count total : ℕ)
     → TakeDoes counted hard_reads hard_weight (block_octets (length report) check) sheet.count count opened taken 0 (heard buffer (payload (length report) check k)) (Ok total)
     → (target target' words words' : List ℕ) (paths paths' : List (Option ℕ)) (found : Found ℕ)

@@ -31,10 +31,10 @@ pub record Names {V : Type 0} (s : Scale V) (octets check : ℕ) (order : List �
 
 -- What the search does. After a performed one the survivors and the path weights hold anything in the part used.
 abbrev pub FindDoes : {V : Type 0} (s : Scale V) → ℕ → ℕ → List ℕ → List (Entry V) → List ℕ → List ℕ → List ℕ → List ℕ → List (Option V) → List (Option V) → Result (Found V) FindRefusal → Type 0
-FindDoes s octets check order tally before after words words-after paths paths-after r =
+FindDoes s octets check order tally before after words words_after paths paths_after r =
     Performs (find_checks (block_octets octets check) (length tally) (length before) (length words) (length paths)) find_number
     (λ found. Names s octets check order (entry_sums s tally) before after found
-    × (drop (8 * block_octets octets check) words-after ≡ drop (8 * block_octets octets check) words)
-    × (drop 32 paths-after ≡ drop 32 paths))
-    ((after ≡ before) × (words-after ≡ words) × (paths-after ≡ paths))
+    × (drop (8 * block_octets octets check) words_after ≡ drop (8 * block_octets octets check) words)
+    × (drop 32 paths_after ≡ drop 32 paths))
+    ((after ≡ before) × (words_after ≡ words) × (paths_after ≡ paths))
     r

@@ -7,7 +7,7 @@ use Rattle.search.specs.Weights.{entry_sums}
 use Rattle.search.specs.declared.Entry.{Entry}
 use Rattle.sheet.specs.Books.{laid, sum_behind}
 use Rattle.sheet.specs.Calls.{Laid}
-use Rattle.sheet.specs.Laying.{Lays-at, laid_at}
+use Rattle.sheet.specs.Laying.{LaysAt, laid_at}
 
 -- the next place, before the last and at it
 pub place_on : (places place k : ℕ) → place + 1 < places → place ≡ k % places → place + 1 ≡ (k + 1) % places
@@ -60,7 +60,7 @@ module _ {A : Type 0} (reads : ℕ → Option A) where
           }
 
       pub laying_more : (i place next : ℕ) (tally after : List (Entry V)) → i < length octets
-          → Laying n start octets before i place tally → Lays-at s reads against place (get_or octets i 0) tally after
+          → Laying n start octets before i place tally → LaysAt s reads against place (get_or octets i 0) tally after
           → next < 32 * n → ((k : ℕ) → place ≡ k % (32 * n) → next ≡ (k + 1) % (32 * n))
           → Laying n start octets before (i + 1) next after
       laying_more i place next tally after h so one small is =

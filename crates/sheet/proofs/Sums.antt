@@ -5,7 +5,7 @@ use Rattle.std.proofs.lemmas.Bool.{cases_eq, cond_both, cond-false, cond-true, e
 use Rattle.weighing.specs.Scales.{Scale}
 use Rattle.search.specs.Weights.{entry_sums, side}
 use Rattle.search.specs.declared.Entry.{Entry}
-use Rattle.sheet.specs.Laying.{Adds-at}
+use Rattle.sheet.specs.Laying.{AddsAt}
 
 -- what stands in a list after a write
 get_d_set : {X : Type 0} (xs : List X) (i p : ℕ) (x d : X) → i < length xs → get_or (set xs i x) p d ≡ cond (eqb i p) x (get_or xs p d)
@@ -27,7 +27,7 @@ sums_set {V} s tally place entry h p b =
 pub adds_at : {V : Type 0} (s : Scale V) (tally after : List (Entry V)) (place : ℕ) (old entry : Entry V) (weights : Bool → V) → place < length tally
     → old ≡ get_or tally place old → after ≡ set tally place entry
     → ((b : Bool) → s.mean (side b entry) ≡ s.plus (s.mean (side b old)) (s.mean (weights b)))
-    → Adds-at s place weights tally after
+    → AddsAt s place weights tally after
 unfolding entry_sums
 adds_at {V} s tally after place old entry weights h read written behind = record {
   sums = λ p b.

@@ -3,14 +3,15 @@ use Rattle.std.specs.Prelude.{◌≡◌, ℕ, ◌+◌, ◌*◌, ◌%◌, ◌<◌
 use Rattle.block.specs.Refusals.{Check, Performs, first_refusal, if_refuse}
 use Rattle.block.specs.Sizes.{block_octets, size_checks, size_number}
 use Rattle.weighing.specs.Scales.{Scale}
+use Rattle.weighing.specs.declared.Weighing.{Ghosts}
 use Rattle.search.specs.Weights.{entry_sums}
 use Rattle.search.specs.declared.Entry.{Entry}
 use Rattle.sheet.specs.Books.{laid, sum_behind, unlawful}
 use Rattle.sheet.specs.declared.Sheet.{Sheet}
 use Rattle.sheet.specs.declared.OpenRefusal.{OpenRefusal}
-use Rattle.sheet.specs.declared.OpenRefusal.TheVariants.{Size, Tally as short-to-open}
+use Rattle.sheet.specs.declared.OpenRefusal.TheVariants.{Size, Tally as short_to_open}
 use Rattle.sheet.specs.declared.WipeRefusal.{WipeRefusal}
-use Rattle.sheet.specs.declared.WipeRefusal.TheVariants.{Tally as short-to-wipe}
+use Rattle.sheet.specs.declared.WipeRefusal.TheVariants.{Tally as short_to_wipe}
 use Rattle.sheet.specs.declared.TakeRefusal.{TakeRefusal}
 use Rattle.sheet.specs.declared.TakeRefusal.TheVariants.{Tally, Start, Count, Full, Symbol}
 
@@ -20,10 +21,10 @@ most_symbols = 1048576
 
 abbrev pub open_number : OpenRefusal → ℕ
 open_number (Size e) = size_number e
-open_number short-to-open = 6
+open_number short_to_open = 6
 
 abbrev pub wipe_number : WipeRefusal → ℕ
-wipe_number short-to-wipe = 6
+wipe_number short_to_wipe = 6
 
 abbrev pub take_number : TakeRefusal → ℕ
 take_number Tally = 6
@@ -66,7 +67,7 @@ module _ {V : Type 0} (s : Scale V) where
     pub rest : drop (32 * n) after ≡ drop (32 * n) before
 
   -- A sheet as it is opened: of the size and the order handed, with no symbol taken, and the entries of its places cleared.
-  pub record Opened {W : Type 0} (octets check : ℕ) (order : List ℕ) (before after : List (Entry V)) (sheet : Sheet W V) : Type 0 where
+  pub record Opened {W : Type 0} {g : Ghosts W V} (octets check : ℕ) (order : List ℕ) (before after : List (Entry V)) (sheet : Sheet W V g) : Type 0 where
     pub octets_are : sheet.size.octets ≡ octets
     pub check_is : sheet.size.check ≡ check
     pub order_is : sheet.order.columns ≡ order
@@ -74,16 +75,16 @@ module _ {V : Type 0} (s : Scale V) where
     pub cleared : Cleared (block_octets octets check) before after
 
   -- What open does.
-  abbrev pub OpenDoes : {W : Type 0} → ℕ → ℕ → List ℕ → List (Entry V) → List (Entry V) → Result (Sheet W V) OpenRefusal → Type 0
+  abbrev pub OpenDoes : {W : Type 0} {g : Ghosts W V} → ℕ → ℕ → List ℕ → List (Entry V) → List (Entry V) → Result (Sheet W V g) OpenRefusal → Type 0
   OpenDoes octets check order before after r =
       Performs (open_checks octets check (length before)) open_number (Opened octets check order before after) (after ≡ before) r
 
   -- What wipe does: entries and count are set to zero.
   abbrev pub WipeDoes : ℕ → ℕ → ℕ → List (Entry V) → List (Entry V) → Result (Unit {0}) WipeRefusal → Type 0
-  WipeDoes n count count-after before after r =
+  WipeDoes n count count_after before after r =
       Performs (wipe_checks n (length before)) wipe_number
-      (λ _. Cleared n before after × (count-after ≡ 0))
-      ((after ≡ before) × (count-after ≡ count)) r
+      (λ _. Cleared n before after × (count_after ≡ 0))
+      ((after ≡ before) × (count_after ≡ count)) r
 
   module _ {A : Type 0} (reads : ℕ → Option A) (against : A → Bool → V) where
     -- symbol i of a take goes to place (8 * start + i) mod (32 * N): behind what that place's entry holds against each
@@ -95,9 +96,9 @@ module _ {V : Type 0} (s : Scale V) where
 
     -- What take does. It answers how many symbols were taken since the opening or the last wipe.
     abbrev pub TakeDoes : ℕ → ℕ → ℕ → List (Entry V) → List (Entry V) → ℕ → List ℕ → Result ℕ TakeRefusal → Type 0
-    TakeDoes n count count-after before after start octets r =
+    TakeDoes n count count_after before after start octets r =
         MatchResult r
         (λ total. (first_refusal (take_checks reads n (length before) count start octets) ≡ None)
-        × (total ≡ count + length octets) × (count-after ≡ total) × Laid n start octets before after)
+        × (total ≡ count + length octets) × (count_after ≡ total) × Laid n start octets before after)
         (λ e. (first_refusal (take_checks reads n (length before) count start octets) ≡ Some (take_number e))
-        × TakeCarries reads octets e × (after ≡ before) × (count-after ≡ count))
+        × TakeCarries reads octets e × (after ≡ before) × (count_after ≡ count))

@@ -20,13 +20,13 @@ laid_at reads place octet = elim (reads octet) [ None ↦ [] | Some symbol ↦ (
 
 module _ {V : Type 0} (s : Scale V) where
   -- at one place, weights are added behind those of the entry there; every other entry stays
-  pub record Adds-at (place : ℕ) (weights : Bool → V) (before after : List (Entry V)) : Type 0 where
+  pub record AddsAt (place : ℕ) (weights : Bool → V) (before after : List (Entry V)) : Type 0 where
     pub sums : (p : ℕ) (b : Bool)
         → entry_sums s after p b ≡ cond (place == p) (s.plus (entry_sums s before p b) (s.mean (weights b))) (entry_sums s before p b)
     pub rest : (m : ℕ) → place < m → drop m after ≡ drop m before
 
   -- an octet is laid at a place, and all entries behind it stay
-  pub record Lays-at {A : Type 0} (reads : ℕ → Option A) (against : A → Bool → V) (place octet : ℕ) (before after : List (Entry V)) : Type 0 where
+  pub record LaysAt {A : Type 0} (reads : ℕ → Option A) (against : A → Bool → V) (place octet : ℕ) (before after : List (Entry V)) : Type 0 where
     pub sums : (p : ℕ) (b : Bool)
         → entry_sums s after p b ≡ sum_behind reads s against (entry_sums s before p b) p b (laid_at reads place octet)
     pub rest : (m : ℕ) → place < m → drop m after ≡ drop m before

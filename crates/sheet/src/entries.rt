@@ -3,7 +3,7 @@ ghost use Rattle.std.specs.Prelude.{◌≡◌, ℕ, ◌+◌, ◌*◌, ◌%◌, �
 ghost use Rattle.search.specs.Weights.{side};
 ghost use Rattle.sheet.specs.Books.{unlawful};
 ghost use Rattle.sheet.specs.Calls.{Cleared, Laid};
-ghost use Rattle.sheet.specs.Laying.{Adds-at, Lays-at};
+ghost use Rattle.sheet.specs.Laying.{AddsAt, LaysAt};
 
 use search::Entry;
 use weighing::{Reading, Weighing};
@@ -58,7 +58,7 @@ fn with_symbol<R: Reading>(entry: Entry<R::Value>, symbol: R::Symbol) -> Entry<R
 
 fn add_symbol<R: Reading>(tally: &mut [Entry<R::Value>], place: usize, symbol: R::Symbol)
     requires { place < length tally.old }
-    ensures { Adds-at R.Weighing.scale place (R.Reading.against symbol) tally.old tally.new }
+    ensures { AddsAt R.Weighing.scale place (R.Reading.against symbol) tally.old tally.new }
 {
     let entry = tally[place];
     put(tally, place, with_symbol::<R>(entry, symbol));
@@ -66,7 +66,7 @@ fn add_symbol<R: Reading>(tally: &mut [Entry<R::Value>], place: usize, symbol: R
 
 fn lay_octet<R: Reading>(tally: &mut [Entry<R::Value>], place: usize, octet: u8)
     requires { place < length tally.old }
-    ensures { Lays-at R.Weighing.scale R.Reading.reads R.Reading.against place octet tally.old tally.new }
+    ensures { LaysAt R.Weighing.scale R.Reading.reads R.Reading.against place octet tally.old tally.new }
 {
     if let Some(symbol) = R::read(octet) {
         add_symbol::<R>(tally, place, symbol);
