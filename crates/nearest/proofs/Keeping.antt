@@ -6,6 +6,7 @@ use Rattle.block.specs.Bits.{bits_of}
 use Rattle.block.specs.Sizes.{block_octets}
 use Rattle.code.specs.Columns.{is_order}
 use Rattle.weighing.specs.Scales.{Scale}
+use Rattle.weighing.specs.declared.Weighing.{Ghosts}
 use Rattle.search.specs.Found.{FindDoes, Names}
 use Rattle.search.specs.Weights.{Nearest, Sums, entry_sums, weight}
 use Rattle.search.specs.declared.Entry.{Entry}
@@ -22,7 +23,7 @@ use Rattle.sheet.proofs.Laying.{sum_append}
 use Rattle.nearest.specs.Runs.{Call, Run, Standing, after_take, after_wipe, called, decodes, opened, takes, wipes}
 use Rattle.nearest.specs.Whole.{ByTheBook, TallyPart}
 
-module _ {V A : Type 0} (W : Type 0) (s : Scale V) (reads : ℕ → Option A) (against : A → Bool → V) where
+module _ {V A : Type 0} (W : Type 0) (g : Ghosts W V) (s : Scale V) (reads : ℕ → Option A) (against : A → Bool → V) where
   -- a place's sum once a take is noted
   noted_sum : (places : ℕ) (book : Book) (start : ℕ) (octets : List ℕ) (p : ℕ) (b : Bool)
       → book_sums reads s against places (noted book start octets) p b ≡ sum_behind reads s against (book_sums reads s against places book p b) p b (laid reads places (8 * start) octets)
@@ -82,13 +83,13 @@ module _ {V A : Type 0} (W : Type 0) (s : Scale V) (reads : ℕ → Option A) (a
       counted = does.1.1 ∙ ap (λ (k : Book). k.count) (sym book);
     }
 
-    pub call_kept : (before after : Standing V) → Kept before → Call W s reads against octets check order before after → Kept after
+    pub call_kept : (before after : Standing V) → Kept before → Call W g s reads against octets check order before after → Kept after
     call_kept before after kept (takes start symbols r does book) = take_kept before after start symbols r kept does book
     call_kept before after kept (decodes target target' words words' paths paths' r does same) = subst Kept (sym same) kept
     call_kept before after kept (wipes r does book) = wipe_kept before after r kept does book
 
     -- a sheet that is newly opened
-    open_kept : (st : Standing V) (tally : List (Entry V)) (sheet : Sheet W V) → OpenDoes s octets check order tally st.tally (Ok sheet)
+    open_kept : (st : Standing V) (tally : List (Entry V)) (sheet : Sheet W V g) → OpenDoes s octets check order tally st.tally (Ok sheet)
         → st.count ≡ sheet.count → st.book ≡ empty → Kept st
     open_kept st tally sheet does count book = record {
       ordered = subst (λ cs. is_order cs ≡ true) does.1.order_is sheet.order.each;
@@ -99,7 +100,7 @@ module _ {V A : Type 0} (W : Type 0) (s : Scale V) (reads : ℕ → Option A) (a
       counted = count ∙ does.1.none_taken ∙ ap (λ (k : Book). k.count) (sym book);
     }
 
-    pub run_kept : {st : Standing V} → Run W s reads against octets check order st → Kept st
+    pub run_kept : {st : Standing V} → Run W g s reads against octets check order st → Kept st
     run_kept (opened st tally sheet does count book) = open_kept st tally sheet does count book
     run_kept (called {before} after run call) = call_kept before after (run_kept run) call
 
@@ -122,7 +123,7 @@ module _ {V A : Type 0} (W : Type 0) (s : Scale V) (reads : ℕ → Option A) (a
           verdict = names.verdict;
         }
 
-    pub by_the_book : (st : Standing V) → Kept st → ByTheBook W s reads against octets check order st
+    pub by_the_book : (st : Standing V) → Kept st → ByTheBook W g s reads against octets check order st
     by_the_book st kept = record {
       entries = kept.entries;
       counted = kept.counted;
@@ -130,5 +131,5 @@ module _ {V A : Type 0} (W : Type 0) (s : Scale V) (reads : ℕ → Option A) (a
       decode_names = λ target target' words words' paths paths' found does. names_by_book st kept target target' found does.1.0;
     }
 
-  pub tally_part : TallyPart W s reads against
+  pub tally_part : TallyPart W g s reads against
   tally_part octets check order st run = by_the_book octets check order st (run_kept octets check order run)

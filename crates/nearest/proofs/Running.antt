@@ -4,6 +4,7 @@ use Rattle.block.specs.declared.Size.{Size}
 use Rattle.code.specs.declared.Order.{Order}
 use Rattle.block.specs.Sizes.{block_octets}
 use Rattle.weighing.specs.Scales.{Scale}
+use Rattle.weighing.specs.declared.Weighing.{Ghosts}
 use Rattle.search.specs.Found.{FindDoes}
 use Rattle.search.specs.declared.Entry.{Entry}
 use Rattle.search.specs.declared.FindRefusal.{FindRefusal}
@@ -14,14 +15,14 @@ use Rattle.sheet.specs.declared.Sheet.{Sheet}
 use Rattle.sheet.specs.declared.TakeRefusal.{TakeRefusal}
 use Rattle.nearest.specs.Runs.{ThreeCalls, after_take, called, decodes, opened, standing, takes}
 
-module _ {V A : Type 0} (W : Type 0) (s : Scale V) (reads : ℕ → Option A) (against : A → Bool → V) where
-  pub three_calls : (octets check : ℕ) (order columns : List ℕ) (tally₀ tally₁ tally₂ : List (Entry V)) (sheet after : Sheet W V)
+module _ {V A : Type 0} (W : Type 0) (g : Ghosts W V) (s : Scale V) (reads : ℕ → Option A) (against : A → Bool → V) where
+  pub three_calls : (octets check : ℕ) (order columns : List ℕ) (tally₀ tally₁ tally₂ : List (Entry V)) (sheet after : Sheet W V g)
       → columns ≡ order → OpenDoes s octets check columns tally₀ tally₁ (Ok sheet) → (start : ℕ) (symbols : List ℕ) (r : Result ℕ TakeRefusal)
       → TakeDoes s reads against (block_octets sheet.size.octets sheet.size.check) sheet.count after.count tally₁ tally₂ start symbols r
       → after.size ≡ sheet.size → after.order ≡ sheet.order
       → (target target' words words' : List ℕ) (paths paths' : List (Option V)) (d : Result (Found V) FindRefusal)
       → FindDoes s after.size.octets after.size.check after.order.columns tally₂ target target' words words' paths paths' d
-      → ThreeCalls W s reads against octets check order start symbols tally₀ tally₂ target target' words words' paths paths' after r d
+      → ThreeCalls W g s reads against octets check order start symbols tally₀ tally₂ target target' words words' paths paths' after r d
   three_calls octets check order columns tally₀ tally₁ tally₂ sheet after same does start symbols r take size ordered target target' words words' paths paths' d find =
       let made = does.1 in
       let t = made.octets_are in

@@ -15,6 +15,7 @@ use Rattle.code.specs.Register.{after, cleared, coded, silent, tail, with_tail}
 use Rattle.code.proofs.Runs.{trace_length, trace_own}
 use Rattle.weighing.specs.Hard.{hard_reads, hard_weight}
 use Rattle.weighing.specs.Scales.{counted}
+use Rattle.weighing.specs.declared.Weighing.{Ghosts}
 use Rattle.search.specs.Found.{FindDoes, Names}
 use Rattle.search.specs.Weights.{added, entry_sums, part, weight}
 use Rattle.search.specs.declared.Entry.{Entry}
@@ -93,8 +94,8 @@ module _ (order : List ℕ) (is : is_order order ≡ true) (n m : ℕ) (all : 8 
   pub nearest_zero : (w : counted.Meaning) → counted.atmost w (weight counted order n (entry_sums counted tally) sent) → w ≡ counted.zero
   nearest_zero w le = only_zero counted order n (entry_sums counted tally) w (subst (counted.atmost w) sent_weight le)
 
-module _ (W : Type 0) where
-  pub decodes_what_was_sent : DecodesWhatWasSent W
+module _ (W : Type 0) (g : Ghosts W ℕ) where
+  pub decodes_what_was_sent : DecodesWhatWasSent W g
   decodes_what_was_sent report check k order before buffer rate encode tally opened taken sheet opens count total take target target' words words' paths paths' found find =
       let octets = length report in
       let n = block_octets octets check in

@@ -5,6 +5,7 @@ use Rattle.std.proofs.lemmas.Bool.{cond_both}
 use Rattle.block.specs.Bits.{bit_at, bits_of}
 use Rattle.block.specs.Sizes.{block_octets}
 use Rattle.weighing.specs.Scales.{Scale}
+use Rattle.weighing.specs.declared.Weighing.{Ghosts}
 use Rattle.search.specs.Found.{Names}
 use Rattle.search.specs.Weights.{entry_sums, weight}
 use Rattle.search.specs.declared.Entry.{Entry}
@@ -18,7 +19,7 @@ use Rattle.nearest.specs.Runs.{Call, NoWipe, Standing, Stretch, decodes, more, n
 use Rattle.nearest.specs.Whole.{GrowthPart}
 use Rattle.nearest.proofs.Keeping.{Kept, run_kept}
 
-module _ {V A : Type 0} (W : Type 0) (s : Scale V) (reads : ℕ → Option A) (against : A → Bool → V) where
+module _ {V A : Type 0} (W : Type 0) (g : Ghosts W V) (s : Scale V) (reads : ℕ → Option A) (against : A → Bool → V) where
   -- what is added behind a weight does not make it lighter
   sum_grows : (xs : List (ℕ × A)) (w : s.Meaning) (p : ℕ) (b : Bool) → s.atmost w (sum_behind reads s against w p b xs)
   sum_grows [] w p b = reflexive s w
@@ -42,20 +43,20 @@ module _ {V A : Type 0} (W : Type 0) (s : Scale V) (reads : ℕ → Option A) (a
         let places = 32 * block_octets octets check in
         subst (s.atmost (entry_sums s before.tally p b)) (sym (does.3.sums p b h)) (sum_grows (laid reads places (8 * start) symbols) (entry_sums s before.tally p b) p b)
 
-    call_grows : (before after : Standing V) (call : Call W s reads against octets check order before after) → NoWipe W s reads against octets check order call → Grows before after
+    call_grows : (before after : Standing V) (call : Call W g s reads against octets check order before after) → NoWipe W g s reads against octets check order call → Grows before after
     call_grows before after (takes start symbols r does book) clean = take_grows before after start symbols r does
     call_grows before after (decodes target target' words words' paths paths' r does same) clean = same_grows before after (ap (λ (x : Standing V). x.tally) same)
     call_grows before after (wipes (Ok x) does book) clean = absurd clean
     call_grows before after (wipes (Err e) does book) clean = same_grows before after does.1.0
 
-    stretch_grows : (from : Standing V) {to : Standing V} → Stretch W s reads against octets check order from to → Grows from to
+    stretch_grows : (from : Standing V) {to : Standing V} → Stretch W g s reads against octets check order from to → Grows from to
     stretch_grows from none = λ p b h. reflexive s (entry_sums s from.tally p b)
     stretch_grows from (more {before} after stretch call clean) = λ p b h.
         s.laws.transitive _ (entry_sums s before.tally p b) _ (stretch_grows from stretch p b h) (call_grows before after call clean p b h)
 
-  pub growth_part : GrowthPart W s reads against
+  pub growth_part : GrowthPart W g s reads against
   growth_part octets check order first later run stretch target₁ target₁' words₁ words₁' target₂ target₂' words₂ words₂' paths₁ paths₁' paths₂ paths₂' found₁ found₂ does₁ does₂ =
-      let kept = run_kept W s reads against octets check order run in
+      let kept = run_kept W g s reads against octets check order run in
       let n = block_octets octets check in
       let bits = 8 * octets + check in
       let second = bits_of target₂' bits in

@@ -33,7 +33,7 @@ after_wipe book (Ok x) = empty
 after_wipe book (Err e) = book
 
 -- a sheet of W for T, L and an order
-module _ {V A : Type 0} (W : Type 0) (s : Scale V) (reads : ℕ → Option A) (against : A → Bool → V) (octets check : ℕ) (order : List ℕ) where
+module _ {V A : Type 0} (W : Type 0) (g : Ghosts W V) (s : Scale V) (reads : ℕ → Option A) (against : A → Bool → V) (octets check : ℕ) (order : List ℕ) where
   -- one call: what stood before, and what stands after
   pub data Call (before after : Standing V) : Type 0 where
     takes : (start : ℕ) (symbols : List ℕ) (r : Result ℕ TakeRefusal)
@@ -55,7 +55,7 @@ module _ {V A : Type 0} (W : Type 0) (s : Scale V) (reads : ℕ → Option A) (a
 
   -- a run begins at the call that opens the sheet
   pub data Run : Standing V → Type 0 where
-    opened : {g : Ghosts W V} (st : Standing V) (tally : List (Entry V)) (sheet : Sheet W V g) → OpenDoes s octets check order tally st.tally (Ok sheet)
+    opened : (st : Standing V) (tally : List (Entry V)) (sheet : Sheet W V g) → OpenDoes s octets check order tally st.tally (Ok sheet)
         → st.count ≡ sheet.count → st.book ≡ empty → Run st
     called : {before : Standing V} (after : Standing V) → Run before → Call before after → Run after
 
@@ -65,7 +65,7 @@ module _ {V A : Type 0} (W : Type 0) (s : Scale V) (reads : ℕ → Option A) (a
     more : {before : Standing V} (after : Standing V) → Stretch from before → (call : Call before after) → NoWipe call → Stretch from after
 
   -- An opening, a take and a decode, one after another: what each did, how the sheet then is, and the run that they make.
-  pub record ThreeCalls {g : Ghosts W V} (start : ℕ) (symbols : List ℕ) (tally tally' : List (Entry V)) (target target' words words' : List ℕ) (paths paths' : List (Option V))
+  pub record ThreeCalls (start : ℕ) (symbols : List ℕ) (tally tally' : List (Entry V)) (target target' words words' : List ℕ) (paths paths' : List (Option V))
       (sheet : Sheet W V g) (taken : Result ℕ TakeRefusal) (found : Result (Found V) FindRefusal) : Type 0 where
     pub between : List (Entry V)
     pub new_sheet : Sheet W V g

@@ -19,11 +19,11 @@ heard buffer octets = map value (bits_of buffer (8 * octets))
 
 -- A report is encoded; its first payload at any rate is taken by the hard reading, from octet 0, onto a new sheet of its
 -- size and order; then each performed decode names the message sent, with weight 0.
-abbrev pub DecodesWhatWasSent : (W : Type 0) → Type 0
-DecodesWhatWasSent W =
+abbrev pub DecodesWhatWasSent : (W : Type 0) → Ghosts W ℕ → Type 0
+DecodesWhatWasSent W g =
     (report : List ℕ) (check k : ℕ) (order before buffer : List ℕ) → k ≤ 24
     → EncodeDoes report check order before buffer (Ok tt)
-    → {g : Ghosts W ℕ} → (tally opened taken : List (Entry ℕ)) (sheet : Sheet W ℕ g) → OpenDoes counted (length report) check order tally opened (Ok sheet)
+    → (tally opened taken : List (Entry ℕ)) (sheet : Sheet W ℕ g) → OpenDoes counted (length report) check order tally opened (Ok sheet)
     → (count total : ℕ)
     → TakeDoes counted hard_reads hard_weight (block_octets (length report) check) sheet.count count opened taken 0 (heard buffer (payload (length report) check k)) (Ok total)
     → (target target' words words' : List ℕ) (paths paths' : List (Option ℕ)) (found : Found ℕ)

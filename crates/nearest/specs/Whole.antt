@@ -2,6 +2,7 @@
 use Rattle.std.specs.Prelude.{◌≡◌, ℕ, ◌*◌, ◌<◌, Bool, List, Ok, Option}
 use Rattle.block.specs.Sizes.{block_octets}
 use Rattle.weighing.specs.Scales.{Scale}
+use Rattle.weighing.specs.declared.Weighing.{Ghosts}
 use Rattle.search.specs.Found.{FindDoes, Names}
 use Rattle.search.specs.Weights.{entry_sums}
 use Rattle.search.specs.declared.Entry.{Entry}
@@ -11,7 +12,7 @@ use Rattle.sheet.specs.Books.{book_sums, noted}
 use Rattle.sheet.specs.Calls.{TakeDoes}
 use Rattle.nearest.specs.Runs.{Run, Standing, Stretch}
 
-module _ {V A : Type 0} (W : Type 0) (s : Scale V) (reads : ℕ → Option A) (against : A → Bool → V) where
+module _ {V A : Type 0} (W : Type 0) (g : Ghosts W V) (s : Scale V) (reads : ℕ → Option A) (against : A → Bool → V) where
   -- What holds of a sheet at every point of a run. Each place's entry is that place's two sums in the book. A performed
   -- take answers the book's count. A performed decode names a message, answers exactly its weight by the book, and every
   -- other message of the size weighs at least as much by the book.
@@ -27,13 +28,13 @@ module _ {V A : Type 0} (W : Type 0) (s : Scale V) (reads : ℕ → Option A) (a
         → Names s octets check order (book_sums reads s against (32 * block_octets octets check) st.book) target target' found
 
   abbrev pub TallyPart : Type 0
-  TallyPart = (octets check : ℕ) (order : List ℕ) (st : Standing V) → Run W s reads against octets check order st → ByTheBook octets check order st
+  TallyPart = (octets check : ℕ) (order : List ℕ) (st : Standing V) → Run W g s reads against octets check order st → ByTheBook octets check order st
 
   -- From one performed decode to a later one with no performed wipe between, the weight does not fall.
   abbrev pub GrowthPart : Type 0
   GrowthPart =
       (octets check : ℕ) (order : List ℕ) (first later : Standing V)
-      → Run W s reads against octets check order first → Stretch W s reads against octets check order first later
+      → Run W g s reads against octets check order first → Stretch W g s reads against octets check order first later
       → (target₁ target₁' words₁ words₁' target₂ target₂' words₂ words₂' : List ℕ) (paths₁ paths₁' paths₂ paths₂' : List (Option V)) (found₁ found₂ : Found V)
       → FindDoes s octets check order first.tally target₁ target₁' words₁ words₁' paths₁ paths₁' (Ok found₁)
       → FindDoes s octets check order later.tally target₂ target₂' words₂ words₂' paths₂ paths₂' (Ok found₂)

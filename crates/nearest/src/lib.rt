@@ -10,8 +10,8 @@ mod runs;
 pub use runs::short_run;
 use search::{FindRefusal, Found};
 use sheet::{Sheet, TakeRefusal};
-use weighing::Reading;
 use weighing::hard::Hard;
+use weighing::{Reading, Weighing};
 
 // What a short run leaves: the sheet, and what its take and its decode answered.
 #[derive(Drop)]
@@ -24,7 +24,7 @@ pub struct ShortRun<R: Reading> {
 // The theorem on runs: each tally is its book's, each decode names a nearest message by the book with its exact weight,
 // the weight does not fall without a wipe, and confirmed octets are the buffer's in rounds.
 pub fn nearest_message<R: Reading>() -> u8
-    ensures theorem { NearestMessage R R.Weighing.scale R.Reading.reads R.Reading.against }
+    ensures theorem { NearestMessage R R.Weighing R.Weighing.scale R.Reading.reads R.Reading.against }
     ensures answer { result ≡ 0 }
 {
     0
@@ -33,7 +33,7 @@ pub fn nearest_message<R: Reading>() -> u8
 // The theorem on an undamaged payload: taken by the hard reading onto a new sheet of its size and order, the first payload
 // of an encoded report, at any rate, decodes to the message sent, with weight 0.
 pub fn undamaged_payload() -> u8
-    ensures theorem { DecodesWhatWasSent Hard }
+    ensures theorem { DecodesWhatWasSent Hard ⟦<Hard as Weighing>⟧ }
     ensures answer { result ≡ 1 }
 {
     1

@@ -18,7 +18,7 @@ fn run_calls<R: Reading>(
     paths: &mut [Option<R::Value>],
 ) -> ShortRun<R>
     requires { 64 ≤ length tally.old }
-    ensures { ThreeCalls R R.Weighing.scale R.Reading.reads R.Reading.against 1 4 order_r 7 octets.now tally.old tally.new target.old target.new survivors.old survivors.new paths.old paths.new result.sheet result.taken result.found }
+    ensures { ThreeCalls R R.Weighing R.Weighing.scale R.Reading.reads R.Reading.against 1 4 order_r 7 octets.now tally.old tally.new target.old target.new survivors.old survivors.new paths.old paths.new result.sheet result.taken result.found }
 {
     let mut sheet = match Sheet::<R>::open(1, 4, Order::order_r(), tally) {
         Ok(sheet) => sheet,
@@ -41,7 +41,7 @@ pub fn short_run<R: Reading>(
     survivors: &mut [u16],
     paths: &mut [Option<R::Value>],
 ) -> Option<ShortRun<R>>
-    ensures { MatchOption result ((length tally.old < 64) × (tally.new ≡ tally.old) × (target.new ≡ target.old) × (survivors.new ≡ survivors.old) × (paths.new ≡ paths.old)) (λ run. ThreeCalls R R.Weighing.scale R.Reading.reads R.Reading.against 1 4 order_r 7 octets.now tally.old tally.new target.old target.new survivors.old survivors.new paths.old paths.new run.sheet run.taken run.found) }
+    ensures { MatchOption result ((length tally.old < 64) × (tally.new ≡ tally.old) × (target.new ≡ target.old) × (survivors.new ≡ survivors.old) × (paths.new ≡ paths.old)) (λ run. ThreeCalls R R.Weighing R.Weighing.scale R.Reading.reads R.Reading.against 1 4 order_r 7 octets.now tally.old tally.new target.old target.new survivors.old survivors.new paths.old paths.new run.sheet run.taken run.found) }
 {
     if tally.len() < 64 {
         return None;

@@ -8,6 +8,6 @@ pub returns : goal.returns
 returns g c =
     let s = g.R.Weighing.scale in
     record {
-      theorem = (tally_part _ s g.R.Reading.reads g.R.Reading.against, growth_part _ s g.R.Reading.reads g.R.Reading.against, sends_in_rounds);
+      theorem = (tally_part _ _ s g.R.Reading.reads g.R.Reading.against, growth_part _ _ s g.R.Reading.reads g.R.Reading.against, sends_in_rounds);
       answer = refl;
     }
