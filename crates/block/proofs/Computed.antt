@@ -1,5 +1,5 @@
 -- A rule that holds at every number below n, by one test that is computed. Assumes nothing.
-use Rattle.std.proofs.Common.{◌≡◌, ℕ, zero, suc, ◌<◌, Bool, true, false, ◌&&◌, ◌⊎◌, subst, inl, inr, not-suc-le-zero, arith}
+use Rattle.std.proofs.Common.{◌≡◌, ℕ, zero, suc, ◌<◌, Bool, true, subst, inl, inr, not-suc-le-zero, arith}
 use Rattle.block.specs.Computed.{passes}
 use Rattle.std.proofs.lemmas.Bool.{cases_eq, and_parts}
 

@@ -1,5 +1,5 @@
 -- Laws of bits, checks and payload lengths. Assumes nothing.
-use Rattle.std.proofs.Common.{◌≡◌, ℕ, zero, suc, ◌+◌, ◌-◌, ◌*◌, ◌/◌, ◌%◌, ◌^◌, ◌<◌, ◌≤◌, Bool, true, false, cond, not, ◌||◌, eqb, ltb, List, [], ◌∷◌, ◌++◌, map, length, get_or, take, drop, set, fold, sym, refl, ap, ◌∙◌, subst, inl, inr, mul-le-mul_right, add-mul, zero-mul, arith, lit<, pow_mono}
+use Rattle.std.proofs.Common.{◌≡◌, ℕ, zero, suc, ◌+◌, ◌-◌, ◌*◌, ◌/◌, ◌%◌, ◌^◌, ◌<◌, ◌≤◌, Bool, true, false, cond, not, ◌||◌, eqb, List, [], ◌∷◌, ◌++◌, map, length, get_or, take, drop, set, fold, sym, refl, ap, ◌∙◌, inl, inr, mul-le-mul_right, add-mul, zero-mul, arith, lit<, pow_mono}
 use native.Mathlib.Nat.{div-eq_of_lt}
 use lib.Bits.{bit_xor}
 use Rattle.std.specs.List.{range_with_len}

@@ -1,5 +1,5 @@
 -- From a block's steps to a report's buffer. Assumes nothing.
-use Rattle.std.proofs.Common.{◌≡◌, ℕ, ◌*◌, List, ◌++◌, length, take, drop, sym, refl, ap, ◌∙◌, subst}
+use Rattle.std.proofs.Common.{◌≡◌, ℕ, ◌*◌, List, ◌++◌, length, take, drop, ap, ◌∙◌}
 use Rattle.block.specs.Checks.{report_message}
 use Rattle.block.specs.Sizes.{block_octets}
 use Rattle.code.specs.Places.{buffer_of}

@@ -1,11 +1,10 @@
 -- The sums of bits that are heard once each, in the order of their places. Assumes nothing.
-use Rattle.std.proofs.Common.{◌≡◌, ℕ, zero, suc, ◌+◌, ◌*◌, ◌%◌, ◌<◌, ◌≤◌, Bool, true, false, cond, eqb, ◌⊎◌, List, [], ◌∷◌, map, sym, refl, ap, ◌∙◌, subst, inl, inr, mod-eq_of_lt, add-one, arith}
+use Rattle.std.proofs.Common.{◌≡◌, ℕ, zero, suc, ◌+◌, ◌%◌, ◌<◌, ◌≤◌, Bool, true, false, cond, eqb, ◌⊎◌, List, ◌∷◌, map, refl, ap, ◌∙◌, inl, inr, mod-eq_of_lt, add-one, arith}
 use Rattle.std.specs.List.{range_with_len}
 use Rattle.std.proofs.lemmas.Bool.{cases_eq, eq-eqb, ne_eqb}
 use Rattle.block.specs.Bits.{value}
 use Rattle.weighing.specs.Hard.{hard_reads, hard_weight}
-use Rattle.weighing.specs.Scales.{Upto, counted}
-use Rattle.weighing.specs.declared.hard.HardSymbol.{HardSymbol}
+use Rattle.weighing.specs.Scales.{counted}
 use Rattle.weighing.specs.declared.hard.HardSymbol.TheVariants.{Bit}
 use Rattle.sheet.specs.Books.{laid, sum_behind}
 

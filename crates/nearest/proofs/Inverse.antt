@@ -1,9 +1,9 @@
 -- The place of an output holds that output. Assumes nothing.
-use Rattle.std.proofs.Common.{◌≡◌, ℕ, zero, suc, ◌+◌, ◌-◌, ◌*◌, ◌/◌, ◌%◌, ◌<◌, ◌≤◌, Bool, true, false, cond, eqb, ltb, List, get_or, sym, refl, ap, ◌∙◌, subst, mul_comm, arith}
+use Rattle.std.proofs.Common.{◌≡◌, ℕ, zero, suc, ◌+◌, ◌-◌, ◌*◌, ◌/◌, ◌%◌, ◌<◌, ◌≤◌, true, false, cond, eqb, ltb, List, get_or, ap, ◌∙◌, mul_comm, arith}
 use Rattle.std.proofs.lemmas.Nat.{div-mul-add, mod-mul-add}
 use Rattle.std.proofs.lemmas.Bool.{le-ltb, lt-ltb, ne_eqb}
 use Rattle.code.specs.Columns.{index_of, is_order}
-use Rattle.code.specs.Places.{column_at, output, output_at, place_bit, place_of, row_at, step_at}
+use Rattle.code.specs.Places.{column_at, output, place_bit, place_of, row_at}
 use Rattle.code.specs.Register.{silent}
 use Rattle.code.specs.declared.Outputs.{Outputs}
 use Rattle.code.proofs.Ordered.{order_index}

@@ -1,14 +1,13 @@
 -- Every call of a run keeps the tally as its book has it. Assumes nothing.
-use Rattle.std.proofs.Common.{◌≡◌, ℕ, ◌+◌, ◌*◌, ◌<◌, ◌≤◌, Bool, true, cond, eqb, List, [], ◌∷◌, ◌++◌, length, Ok, Err, Option, Result, sym, refl, ap, ◌∙◌, subst, arith}
-use Rattle.std.specs.List.{flat_map}
-use Rattle.std.proofs.lemmas.List.{append-nil, flat_map_more}
+use Rattle.std.proofs.Common.{◌≡◌, ℕ, ◌+◌, ◌*◌, ◌<◌, Bool, true, List, [], length, Ok, Err, Option, Result, sym, refl, ap, ◌∙◌, subst, arith}
+use Rattle.std.proofs.lemmas.List.{flat_map_more}
 use Rattle.block.specs.Bits.{bits_of}
 use Rattle.block.specs.Sizes.{block_octets}
 use Rattle.code.specs.Columns.{is_order}
 use Rattle.weighing.specs.Scales.{Scale}
 use Rattle.weighing.specs.declared.Weighing.{Ghosts}
-use Rattle.search.specs.Found.{FindDoes, Names}
-use Rattle.search.specs.Weights.{Nearest, Sums, entry_sums, weight}
+use Rattle.search.specs.Found.{Names}
+use Rattle.search.specs.Weights.{entry_sums, weight}
 use Rattle.search.specs.declared.Entry.{Entry}
 use Rattle.search.specs.declared.Found.{Found}
 use Rattle.search.proofs.Growth.{weight_same}

@@ -1,5 +1,5 @@
 -- A run by an opening, a take and a decode. Assumes nothing.
-use Rattle.std.proofs.Common.{◌≡◌, ℕ, Bool, List, Ok, Option, Result, sym, refl, ap, ◌∙◌, subst}
+use Rattle.std.proofs.Common.{◌≡◌, ℕ, Bool, List, Ok, Option, Result, refl, ap, ◌∙◌, subst}
 use Rattle.block.specs.declared.Size.{Size}
 use Rattle.code.specs.declared.Order.{Order}
 use Rattle.block.specs.Sizes.{block_octets}

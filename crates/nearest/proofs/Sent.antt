@@ -1,6 +1,5 @@
 -- An undamaged first payload decodes to what was sent. Assumes nothing.
-use Rattle.std.proofs.Common.{◌≡◌, ℕ, ◌+◌, ◌*◌, ◌<◌, ◌≤◌, Bool, true, false, List, ◌++◌, map, length, get_or, drop, Ok, Option, sym, refl, ap, ◌∙◌, subst, inl, inr, mul-le-mul_left, arith, lit≤}
-use Rattle.std.specs.List.{range_with_len}
+use Rattle.std.proofs.Common.{◌≡◌, ℕ, ◌+◌, ◌*◌, ◌<◌, ◌≤◌, Bool, true, false, List, length, get_or, drop, sym, ap, ◌∙◌, subst, inl, inr, mul-le-mul_left, arith, lit≤}
 use Rattle.std.proofs.lemmas.List.FromFn.{length-map-range_with_len}
 use Rattle.std.proofs.lemmas.List.{ext_get_or, get_or_append_left}
 use Rattle.std.proofs.lemmas.Bool.{cases_lt}
@@ -10,21 +9,16 @@ use Rattle.block.specs.Sizes.{block_octets, payload}
 use Rattle.block.proofs.Octets.{bit_at_octets}
 use Rattle.code.specs.Columns.{is_order}
 use Rattle.code.specs.Places.{output, place_bit, place_of}
-use Rattle.code.specs.Refused.{EncodeDoes, encoded}
 use Rattle.code.specs.Register.{after, cleared, coded, silent, tail, with_tail}
 use Rattle.code.proofs.Runs.{trace_length, trace_own}
 use Rattle.weighing.specs.Hard.{hard_reads, hard_weight}
 use Rattle.weighing.specs.Scales.{counted}
 use Rattle.weighing.specs.declared.Weighing.{Ghosts}
-use Rattle.search.specs.Found.{FindDoes, Names}
-use Rattle.search.specs.Weights.{added, entry_sums, part, weight}
+use Rattle.search.specs.Weights.{entry_sums, part, weight}
 use Rattle.search.specs.declared.Entry.{Entry}
-use Rattle.search.specs.declared.Found.{Found}
 use Rattle.search.proofs.Bridge.{with_tail_length}
 use Rattle.search.proofs.Growth.{place_small}
 use Rattle.sheet.specs.Books.{laid, sum_behind}
-use Rattle.sheet.specs.Calls.{OpenDoes, TakeDoes}
-use Rattle.sheet.specs.declared.Sheet.{Sheet}
 use Rattle.nearest.specs.Undamaged.{DecodesWhatWasSent, heard}
 use Rattle.nearest.proofs.Heard.{own_weighs, sum_hit, sum_miss, weighs, weighs_own}
 use Rattle.nearest.proofs.Inverse.{place_back}

@@ -1,23 +1,20 @@
 -- Without a performed wipe no entry gets lighter, so no decoded weight falls. Assumes nothing.
-use Rattle.std.proofs.Common.{◌≡◌, ℕ, ◌+◌, ◌*◌, ◌<◌, Bool, true, false, cond, eqb, List, [], ◌∷◌, length, Ok, Err, Option, Result, sym, refl, ap, ◌∙◌, subst, arith}
+use Rattle.std.proofs.Common.{◌≡◌, ℕ, ◌+◌, ◌*◌, ◌<◌, Bool, cond, eqb, List, [], ◌∷◌, length, Ok, Err, Option, Result, sym, ap, subst, arith}
 use Rattle.std.proofs.lemmas.List.FromFn.{length-map-range_with_len}
 use Rattle.std.proofs.lemmas.Bool.{cond_both}
 use Rattle.block.specs.Bits.{bit_at, bits_of}
 use Rattle.block.specs.Sizes.{block_octets}
 use Rattle.weighing.specs.Scales.{Scale}
 use Rattle.weighing.specs.declared.Weighing.{Ghosts}
-use Rattle.search.specs.Found.{Names}
 use Rattle.search.specs.Weights.{entry_sums, weight}
-use Rattle.search.specs.declared.Entry.{Entry}
 use Rattle.search.proofs.Growth.{weight_grows}
 use Rattle.search.proofs.Orders.{reflexive}
 use Rattle.sheet.specs.Books.{laid, sum_behind}
-use Rattle.sheet.specs.Calls.{TakeDoes, WipeDoes}
+use Rattle.sheet.specs.Calls.{TakeDoes}
 use Rattle.sheet.specs.declared.TakeRefusal.{TakeRefusal}
-use Rattle.sheet.specs.declared.WipeRefusal.{WipeRefusal}
 use Rattle.nearest.specs.Runs.{Call, NoWipe, Standing, Stretch, decodes, more, none, takes, wipes}
 use Rattle.nearest.specs.Whole.{GrowthPart}
-use Rattle.nearest.proofs.Keeping.{Kept, run_kept}
+use Rattle.nearest.proofs.Keeping.{run_kept}
 
 module _ {V A : Type 0} (W : Type 0) (g : Ghosts W V) (s : Scale V) (reads : ℕ → Option A) (against : A → Bool → V) where
   -- what is added behind a weight does not make it lighter

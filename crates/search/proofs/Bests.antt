@@ -1,9 +1,8 @@
 -- The search's invariant: it holds at the start, one step keeps it. Assumes nothing.
-use Rattle.std.proofs.Common.{◌≡◌, ℕ, zero, suc, ◌+◌, ◌<◌, Bool, true, false, List, [], ◌∷◌, length, get_or, IfSome, Some, None, Option, sym, refl, ap, ◌∙◌, subst, arith, MatchOption}
+use Rattle.std.proofs.Common.{◌≡◌, ℕ, zero, suc, ◌<◌, Bool, List, [], ◌∷◌, length, get_or, IfSome, Some, None, Option, sym, refl, ap, ◌∙◌, subst, arith, MatchOption}
 use Rattle.std.specs.Option.{option_map}
 use Rattle.block.specs.Bits.{bit}
 use Rattle.code.specs.Register.{Cells, cells_of, next, outputs, state_of}
-use Rattle.code.specs.declared.Outputs.{Outputs}
 use Rattle.code.proofs.Steps.{cells_state}
 use Rattle.weighing.specs.Scales.{Scale}
 use Rattle.search.specs.Weights.{Sums}

@@ -1,5 +1,5 @@
 -- Bits as the code has them. Assumes nothing.
-use Rattle.std.proofs.Common.{◌≡◌, ℕ, Bool, true, false, not, refl}
+use Rattle.std.proofs.Common.{◌≡◌, Bool, true, false, not, refl}
 use mathlib.Core.Bool.{beq}
 use mir.Val.{bool_byte}
 use Rattle.block.specs.Bits.{value}

@@ -1,7 +1,7 @@
 -- The end of the search: the message that the survivors give is nearest. Assumes nothing.
-use Rattle.std.proofs.Common.{◌≡◌, ℕ, ◌+◌, ◌<◌, Bool, false, List, reverse, length, take, replicate, IfSome, Some, None, Option, sym, refl, ap, ◌∙◌, subst, arith, lit<}
+use Rattle.std.proofs.Common.{◌≡◌, ℕ, ◌+◌, Bool, false, List, reverse, length, take, replicate, IfSome, Some, None, Option, sym, ap, ◌∙◌, subst, lit<}
 use Rattle.std.proofs.lemmas.List.{length-replicate, length-reverse, reverse-reverse}
-use Rattle.code.specs.Register.{after, cells_of, cleared, state_of, with_tail}
+use Rattle.code.specs.Register.{cells_of, state_of, with_tail}
 use Rattle.code.proofs.Steps.{cells_state}
 use Rattle.weighing.specs.Scales.{Scale}
 use Rattle.search.specs.Weights.{Nearest, Sums, weight}

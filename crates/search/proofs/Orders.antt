@@ -1,8 +1,7 @@
 -- What the laws of a scale give of path weights, absent ones among them. Assumes nothing.
-use Rattle.std.proofs.Common.{◌≡◌, ℕ, Bool, true, false, List, Some, None, Option, sym, refl, ap, ◌∙◌, subst, inl, inr}
-use Rattle.std.specs.Option.{option_map}
+use Rattle.std.proofs.Common.{◌≡◌, ℕ, Bool, true, false, List, Some, None, Option, ap, ◌∙◌, subst, inl, inr}
 use Rattle.code.specs.declared.Outputs.{Outputs}
-use Rattle.weighing.specs.Scales.{Scale, Laws}
+use Rattle.weighing.specs.Scales.{Scale}
 use Rattle.search.specs.Paths.{Lighter, Settled, behind, through}
 
 module _ {V : Type 0} (s : Scale V) where

@@ -1,9 +1,9 @@
 -- Where the outputs of a step stand. Assumes nothing.
-use Rattle.std.proofs.Common.{◌≡◌, ℕ, ◌+◌, ◌-◌, ◌*◌, ◌/◌, ◌%◌, ◌<◌, ◌≤◌, cond, List, get_or, sym, refl, ap, ◌∙◌, mul-le-mul_left, mul-add, arith}
+use Rattle.std.proofs.Common.{◌≡◌, ℕ, ◌+◌, ◌-◌, ◌*◌, ◌/◌, ◌%◌, ◌<◌, ◌≤◌, cond, List, get_or, sym, ap, ◌∙◌, mul-le-mul_left, mul-add, arith}
 use lib.Bits.{bit_and}
 use Rattle.std.proofs.lemmas.Nat.{and_mask}
 use Rattle.std.proofs.lemmas.Bool.{ne_eqb}
-use Rattle.code.specs.Columns.{index_of, is_order}
+use Rattle.code.specs.Columns.{index_of}
 use Rattle.code.specs.Places.{place_of}
 use Rattle.search.specs.Paths.{ColumnPlaces}
 

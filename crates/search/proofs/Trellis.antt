@@ -1,14 +1,13 @@
 -- Facts of the sixteen states, each by one computed test. Assumes nothing.
-use Rattle.std.proofs.Common.{◌≡◌, ℕ, zero, suc, ◌+◌, ◌*◌, ◌%◌, ◌<◌, Bool, true, false, ◌&&◌, eqb, ltb, List, [], ◌∷◌, length, get_or, sym, refl, ap, ◌∙◌, subst, arith}
+use Rattle.std.proofs.Common.{◌≡◌, ℕ, zero, suc, ◌<◌, Bool, true, false, ◌&&◌, eqb, List, ◌∷◌, length, get_or, sym, refl, ap, ◌∙◌, arith}
 use mathlib.Core.Bool.{beq}
-use Rattle.std.proofs.lemmas.Bool.{and_parts, eqb-true, ltb-true}
+use Rattle.std.proofs.lemmas.Bool.{and_parts, eqb-true}
 use Rattle.block.specs.Bits.{bit, value}
-use Rattle.block.specs.Computed.{passes}
 use Rattle.block.proofs.Bools.{same_is}
 use Rattle.block.proofs.Computed.{below}
 use Rattle.code.specs.Register.{Cells, cells_of, next, state_of}
 use Rattle.code.proofs.Steps.{cells_state}
-use Rattle.search.specs.Paths.{ends, input, origin, predecessor}
+use Rattle.search.specs.Paths.{input, origin, predecessor}
 
 value_small : (b : Bool) → value b < 2
 value_small true = omega arith

@@ -1,5 +1,5 @@
 -- What the search answers, and what it leaves in the buffers that it is lent. Assumes nothing.
-use Rattle.std.specs.Prelude.{◌≡◌, ℕ, ◌+◌, ◌*◌, Bool, ◌||◌, List, [], ◌∷◌, ◌++◌, length, drop, Decides, Option, Result, nat_lt}
+use Rattle.std.specs.Prelude.{◌≡◌, ℕ, ◌+◌, ◌*◌, ◌||◌, List, [], ◌∷◌, ◌++◌, length, drop, Decides, Option, Result, nat_lt}
 use Rattle.block.specs.Bits.{bits_of, filled}
 use Rattle.block.specs.Checks.{CheckFits}
 use Rattle.block.specs.Refusals.{Check, Performs, if_refuse}

@@ -1,6 +1,6 @@
 -- Paths through the trellis, as the search goes: nothing here is part of what the search promises.
 -- A path is a row of bits with the latest first, so that one bit more is `∷`. Assumes nothing.
-use Rattle.std.specs.Prelude.{◌≡◌, ℕ, zero, suc, ◌+◌, ◌*◌, ◌%◌, ◌<◌, ◌≤◌, Bool, true, false, cond, List, [], ◌∷◌, reverse, length, take, Some, None, Option, MatchOption, ◌==◌, slice_index, slice_index_or}
+use Rattle.std.specs.Prelude.{◌≡◌, ℕ, zero, suc, ◌+◌, ◌*◌, ◌%◌, ◌<◌, ◌≤◌, Bool, cond, List, [], ◌∷◌, reverse, length, take, Some, None, Option, MatchOption, ◌==◌, slice_index, slice_index_or}
 use Rattle.std.specs.Option.{option_map}
 use Rattle.block.specs.Bits.{bit, value}
 use Rattle.code.specs.Columns.{index_of}

@@ -1,5 +1,5 @@
 -- What a message weighs, and which is nearest. Assumes nothing.
-use Rattle.std.specs.Prelude.{◌≡◌, ℕ, suc, ◌+◌, ◌*◌, Bool, cond, List, [], ◌∷◌, map, length, slice_index_or}
+use Rattle.std.specs.Prelude.{◌≡◌, ℕ, suc, Bool, cond, List, [], ◌∷◌, map, length, slice_index_or}
 use Rattle.code.specs.Places.{output, place_of}
 use Rattle.code.specs.Register.{coded}
 use Rattle.code.specs.declared.Outputs.{Outputs}

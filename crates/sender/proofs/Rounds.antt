@@ -5,7 +5,7 @@ use Rattle.std.specs.List.{range_with_len}
 use Rattle.std.proofs.lemmas.List.FromFn.{map-range_with_len_more, length-map-range_with_len, get_or-map-range_with_len}
 use Rattle.std.proofs.lemmas.List.{append-nil, append_assoc, take_at}
 use Rattle.sender.specs.declared.PassageRefusal.{PassageRefusal}
-use Rattle.sender.specs.Passages.{Guard, round, sent, CopyDoes, passing}
+use Rattle.sender.specs.Passages.{Guard, round, sent, CopyDoes}
 use Rattle.sender.specs.Runs.{Copies, none, next, Run, made, confirmed, given_up, written, asked_of, SendsInRounds}
 
 -- functions that agree everywhere make the same list

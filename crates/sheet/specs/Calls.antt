@@ -1,5 +1,5 @@
 -- What each call of a sheet does, and which refuses what. N is the octets of a block. Assumes nothing.
-use Rattle.std.specs.Prelude.{◌≡◌, ℕ, ◌+◌, ◌*◌, ◌%◌, ◌<◌, Bool, true, false, not, ◌||◌, List, [], ◌∷◌, ◌++◌, length, drop, is_some, Some, None, Option, Result, MatchResult, ◌==◌, nat_le, nat_lt}
+use Rattle.std.specs.Prelude.{◌≡◌, ℕ, ◌+◌, ◌*◌, ◌%◌, ◌<◌, Bool, not, ◌||◌, List, [], ◌∷◌, ◌++◌, length, drop, is_some, Some, None, Option, Result, MatchResult, ◌==◌, nat_le, nat_lt}
 use Rattle.block.specs.Refusals.{Check, Performs, first_refusal, if_refuse}
 use Rattle.block.specs.Sizes.{block_octets, size_checks, size_number}
 use Rattle.weighing.specs.Scales.{Scale}

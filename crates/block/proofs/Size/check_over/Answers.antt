@@ -1,5 +1,5 @@
 use Rattle.std.proofs.Common.{sym, ap, ◌∙◌}
-use Rattle.block.specs.Checks.{check_of, extended}
+use Rattle.block.specs.Checks.{extended}
 use Rattle.block.proofs.Laws.{folded_bits_more}
 use Rattle.block.proofs.Size.check_over.Goals as goal
 

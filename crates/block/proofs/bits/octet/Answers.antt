@@ -1,4 +1,4 @@
-use Rattle.std.proofs.Common.{arith, rules}
+use Rattle.std.proofs.Common.{arith}
 use Rattle.block.specs.Bits.{octet_of}
 use Rattle.block.proofs.bits.octet.Goals as goal
 

@@ -1,5 +1,5 @@
-use Rattle.std.proofs.Common.{◌≡◌, ℕ, ◌+◌, ◌-◌, true, false, sym, refl, ap, ◌∙◌, subst, arith, rules}
-use Rattle.block.specs.Sizes.{payload, some_size}
+use Rattle.std.proofs.Common.{◌-◌, sym, refl, ◌∙◌, arith, rules}
+use Rattle.block.specs.Sizes.{some_size}
 use Rattle.block.proofs.Laws.{payload_alone, some_size_at, some_size_more}
 use Rattle.block.proofs.plans.octets_for.Goals as goal
 

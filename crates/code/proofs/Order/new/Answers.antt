@@ -1,4 +1,4 @@
-use Rattle.std.proofs.Common.{sym, ◌∙◌}
+use Rattle.std.proofs.Common.{sym}
 use Rattle.code.proofs.Ordered.{order_length}
 use Rattle.code.proofs.Order.new.Goals as goal
 

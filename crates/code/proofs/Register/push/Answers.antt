@@ -1,4 +1,4 @@
-use Rattle.std.proofs.Common.{refl, ap, ◌∙◌, arith, rules}
+use Rattle.std.proofs.Common.{refl, ap, ◌∙◌}
 use Rattle.code.specs.Register.{cells_of, follows_rule}
 use Rattle.code.proofs.Steps.{cells_state}
 use Rattle.code.proofs.Register.push.Goals as goal

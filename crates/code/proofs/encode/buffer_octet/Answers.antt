@@ -1,7 +1,6 @@
-use Rattle.std.proofs.Common.{◌≡◌, ◌+◌, ◌*◌, ◌<◌, false, ◌≢◌, length, get_or, sym, refl, ap, ◌∙◌, subst, arith, below_more}
+use Rattle.std.proofs.Common.{false, ◌∙◌, arith, below_more}
 use Rattle.std.proofs.lemmas.List.{get_or-set_same, get_or-set_other, length-set}
 use Rattle.block.proofs.Laws.{octet_same}
-use Rattle.code.specs.Places.{place_bit}
 use Rattle.code.proofs.encode.buffer_octet.Goals as goal
 
 pub loop-i-preserved : goal.loop-i-preserved

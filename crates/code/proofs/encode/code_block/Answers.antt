@@ -1,4 +1,4 @@
-use Rattle.std.proofs.Common.{◌≡◌, ◌+◌, ◌*◌, ◌<◌, length, take, subst, arith}
+use Rattle.std.proofs.Common.{◌≡◌, ◌+◌, ◌*◌, take, subst, arith}
 use Rattle.code.specs.Register.{cleared, trace, silent}
 use Rattle.block.specs.Checks.{report_message}
 use Rattle.code.proofs.Runs.{block_noted}

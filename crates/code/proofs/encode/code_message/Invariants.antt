@@ -1,4 +1,3 @@
-use Rattle.std.proofs.Common.{length}
 use Rattle.block.specs.Checks.{report_bit}
 use Rattle.code.specs.Register.{cells, cleared}
 use Rattle.code.proofs.Runs.{Noted, first}

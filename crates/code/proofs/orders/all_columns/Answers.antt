@@ -1,4 +1,4 @@
-use Rattle.std.proofs.Common.{sym, arith, rules}
+use Rattle.std.proofs.Common.{sym, arith}
 use Rattle.code.proofs.Ordered.{all_below_since, all_below_not}
 use Rattle.code.proofs.orders.all_columns.Goals as goal
 

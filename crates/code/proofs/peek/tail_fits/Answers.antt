@@ -1,8 +1,8 @@
-use Rattle.std.proofs.Common.{◌≡◌, ℕ, ◌+◌, ◌<◌, true, false, get_or, sym, ap, ◌∙◌, arith}
+use Rattle.std.proofs.Common.{◌≡◌, ℕ, ◌<◌, true, false, get_or, sym, ap, ◌∙◌, arith}
 use Rattle.std.proofs.lemmas.Bool.{false≢true}
 use Rattle.block.specs.Bits.{bits_of}
 use Rattle.block.proofs.Bools.{differ}
-use Rattle.code.specs.Register.{after, cells, cleared, silent, tail, trace}
+use Rattle.code.specs.Register.{after, cells, cleared, silent, tail}
 use Rattle.code.proofs.Runs.{trace_own}
 use Rattle.code.proofs.peek.tail_fits.Goals as goal
 use Rattle.code.proofs.peek.tail_fits.Goals.{After-close-tail}

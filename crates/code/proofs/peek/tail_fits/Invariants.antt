@@ -1,4 +1,4 @@
-use Rattle.std.proofs.Common.{◌≡◌, ℕ, ◌+◌, ◌<◌, false, get_or}
+use Rattle.std.proofs.Common.{◌≡◌, ℕ, ◌+◌, ◌<◌, get_or}
 use Rattle.block.specs.Bits.{bit_at}
 use Rattle.code.specs.Register.{silent}
 use Rattle.code.proofs.peek.tail_fits.Given as goal

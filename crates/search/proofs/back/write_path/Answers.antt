@@ -1,4 +1,4 @@
-use Rattle.std.proofs.Common.{◌≡◌, ℕ, ◌+◌, ◌-◌, ◌*◌, ◌<◌, ◌≤◌, Bool, false, List, reverse, length, get_or, take, drop, sym, refl, ap, ◌∙◌, subst, arith, lit<}
+use Rattle.std.proofs.Common.{◌≡◌, ℕ, ◌+◌, ◌-◌, ◌*◌, false, List, reverse, length, get_or, take, sym, refl, ◌∙◌, subst, arith, lit<}
 use Rattle.std.proofs.lemmas.List.{drop-set-lt, length-reverse, take_all}
 use Rattle.block.specs.Bits.{octet_of}
 use Rattle.search.specs.Paths.{origin}

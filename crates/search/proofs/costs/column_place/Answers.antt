@@ -1,5 +1,4 @@
 use Rattle.std.proofs.Common.{◌+◌, ◌*◌, ◌≤◌, ap, arith}
-use Rattle.code.specs.Columns.{index_of}
 use Rattle.code.proofs.Ordered.{order_index}
 use Rattle.search.proofs.Placing.{column_within}
 use Rattle.search.proofs.costs.column_place.Goals as goal

@@ -1,4 +1,4 @@
-use Rattle.std.proofs.Common.{◌≡◌, refl, ap, ◌∙◌}
+use Rattle.std.proofs.Common.{◌≡◌, ap, ◌∙◌}
 use Rattle.code.specs.Places.{place_of}
 use Rattle.search.specs.Weights.{entry_sums, part, side}
 use Rattle.search.proofs.costs.entries_at.Goals as goal

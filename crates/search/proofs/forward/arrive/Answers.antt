@@ -1,4 +1,3 @@
-use Rattle.std.proofs.Common.{true, false}
 use Rattle.search.proofs.Orders.{settled_even, settled_odd}
 use Rattle.search.proofs.forward.arrive.Goals as goal
 

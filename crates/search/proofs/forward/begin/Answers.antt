@@ -1,4 +1,4 @@
-use Rattle.std.proofs.Common.{◌≡◌, get_or, drop, Some, None, sym, refl, ap, ◌∙◌, arith, below_more}
+use Rattle.std.proofs.Common.{get_or, drop, Some, None, ap, ◌∙◌, arith, below_more}
 use Rattle.std.proofs.lemmas.List.{drop-set-lt, get_or-set_other, get_or-set_same}
 use Rattle.search.proofs.Bests.{best_start}
 use Rattle.search.proofs.forward.begin.Goals as goal

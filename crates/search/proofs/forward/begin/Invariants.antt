@@ -1,4 +1,4 @@
-use Rattle.std.proofs.Common.{◌≡◌, ℕ, ◌<◌, length, get_or, drop, None}
+use Rattle.std.proofs.Common.{◌≡◌, ℕ, ◌<◌, get_or, drop, None}
 use Rattle.search.proofs.forward.begin.Given as goal
 
 abbrev pub invariant-loop-state : goal.invariant-loop-state

@@ -1,4 +1,4 @@
-use Rattle.std.proofs.Common.{◌≡◌, ℕ, List, sym, refl, ap, ◌∙◌, subst, arith}
+use Rattle.std.proofs.Common.{◌≡◌, refl, ◌∙◌, subst, arith}
 use Rattle.search.specs.Weights.{entry_sums}
 use Rattle.search.specs.Paths.{Best, half}
 use Rattle.search.proofs.forward.forward.Goals as goal

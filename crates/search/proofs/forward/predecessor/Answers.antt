@@ -1,4 +1,4 @@
-use Rattle.std.proofs.Common.{◌≡◌, ◌+◌, ◌*◌, ◌%◌, ◌<◌, sym, ap, subst}
+use Rattle.std.proofs.Common.{◌+◌, ◌*◌, ◌%◌, ◌<◌, sym, ap, subst}
 use Rattle.search.specs.Paths.{predecessor}
 use Rattle.search.proofs.Bools.{byte_value}
 use Rattle.search.proofs.Trellis.{predecessor_small}

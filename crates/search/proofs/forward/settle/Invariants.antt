@@ -1,4 +1,4 @@
-use Rattle.std.proofs.Common.{◌≡◌, ℕ, ◌-◌, ◌^◌, ◌<◌, ◌≤◌, length, drop}
+use Rattle.std.proofs.Common.{◌≡◌, ℕ, ◌-◌, ◌^◌, ◌<◌, ◌≤◌, drop}
 use Rattle.block.specs.Bits.{bit}
 use Rattle.search.specs.Paths.{Settled, entries_cost, meant}
 use Rattle.search.proofs.forward.settle.Given as goal
