@@ -1,5 +1,8 @@
-// Worked examples of blocks and code, each proved safe and then run.
+// Worked examples of blocks, of the code, and of what is named, each proved safe and then run.
 #![tactic(auto)]
+
+#[cfg(test)]
+mod hearing;
 
 #[cfg(test)]
 mod tests {
