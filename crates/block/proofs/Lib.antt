@@ -1,5 +1,5 @@
 pub mod Bools
 pub mod Computed
 pub mod Laws
-pub mod Refused
 pub mod Octets
+pub mod Ranges

@@ -16,25 +16,22 @@ pub fn bit_of(x: u32, i: usize) -> bool
 pub fn bit_at(octets: &[u8], p: usize) -> bool
     ensures { result ≡ bit_at octets.now p }
 {
-    if p / 8 >= octets.len() {
-        return false;
-    }
-    (octets[p / 8] >> (p % 8)) % 2 == 1
-}
-
-// What a bit adds to the octet in which it has this value.
-fn share(bit: bool, worth: u8) -> u8
-    ensures is { result ≡ worth * value bit }
-    ensures most { result ≤ worth }
-{
-    if bit { worth } else { 0 }
+    octets
+        .get(p / 8)
+        .is_some_and(|octet| bit_of(u32::from(*octet), p % 8))
 }
 
 // The octet of eight bits, bit 1 first.
 pub fn octet(bits: [bool; 8]) -> u8
     ensures { result ≡ octet_of (λ i. slice_index_or bits i false) }
 {
-    let low = share(bits[0], 1) + share(bits[1], 2) + share(bits[2], 4) + share(bits[3], 8);
-    let high = share(bits[4], 16) + share(bits[5], 32) + share(bits[6], 64) + share(bits[7], 128);
-    low + high
+    // Term by term, as the octet is defined, and so with no invariant.
+    u8::from(bits[0])
+        + 2 * u8::from(bits[1])
+        + 4 * u8::from(bits[2])
+        + 8 * u8::from(bits[3])
+        + 16 * u8::from(bits[4])
+        + 32 * u8::from(bits[5])
+        + 64 * u8::from(bits[6])
+        + 128 * u8::from(bits[7])
 }

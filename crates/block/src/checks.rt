@@ -7,52 +7,52 @@ ghost use Rattle.block.specs.Sizes.{size_checks, size_number};
 
 use crate::{Size, SizeRefusal, bit_at, bit_of};
 
-fn polynomial_of(check: usize) -> u32
-    ensures { result ≡ polynomial check }
-{
-    match check {
-        4 => 0b1_1101,
-        12 => 0b1_1000_0000_1111,
-        20 => 0b1_1000_0000_0000_0110_1001,
-        _ => 0b1_1000_0000_0000_0000_0000_0110_1001,
-    }
-}
-
-// The term x^L where the bit is set.
-fn incoming(check: usize, bit: bool) -> u32
-    requires { check < 32 }
-    ensures { result ≡ (if bit then 2 ^ check else 0) }
-{
-    if bit { 1 << check } else { 0 }
-}
-
-fn reduce(check: usize, p: u32) -> u32
-    ensures { result ≡ reduced check p }
-{
-    if bit_of(p, check) {
-        p ^ polynomial_of(check)
-    } else {
-        p
-    }
-}
-
-// The check once one more bit follows those whose check is `r`.
-fn extend(check: usize, r: u32, bit: bool) -> u32
-    requires { (check % 8 ≡ 4) × ((check < 32) × (r < 2 ^ check)) }
-    ensures value { result ≡ extended check r bit }
-    ensures below { result < 2 ^ check }
-{
-    reduce(check, (2 * r) ^ incoming(check, bit))
-}
-
 impl Size {
+    fn polynomial(self) -> u32
+        ensures { result ≡ polynomial self.check }
+    {
+        match self.check {
+            4 => 0b1_1101,
+            12 => 0b1_1000_0000_1111,
+            20 => 0b1_1000_0000_0000_0110_1001,
+            _ => 0b1_1000_0000_0000_0000_0000_0110_1001,
+        }
+    }
+
+    // The term x^L where the bit is set.
+    fn incoming(self, bit: bool) -> u32
+        ensures { result ≡ (if bit then 2 ^ self.check else 0) }
+    {
+        u32::from(bit) << self.check
+    }
+
+    fn reduce(self, p: u32) -> u32
+        ensures { result ≡ reduced self.check p }
+    {
+        if bit_of(p, self.check) {
+            p ^ self.polynomial()
+        } else {
+            p
+        }
+    }
+
+    // The check once one more bit follows those whose check is `r`.
+    fn extend(self, r: u32, bit: bool) -> u32
+        requires { r < 2 ^ self.check }
+        ensures value { result ≡ extended self.check r bit }
+        ensures below { result < 2 ^ self.check }
+    {
+        self.reduce((2 * r) ^ self.incoming(bit))
+    }
+
     // The check of the message that stands at the front of `octets`; what is missing there counts as 0.
     pub fn check_over(self, octets: &[u8]) -> u32
         ensures { result ≡ check_of self.check (bits_of octets.now (8 * self.octets)) }
     {
         let mut r = 0;
+        // A `for` over positions: the closure of a fold would repeat the clauses of `extend`.
         for p in 0..8 * self.octets {
-            r = extend(self.check, r, bit_at(octets, p));
+            r = self.extend(r, bit_at(octets, p));
         }
         r
     }
@@ -62,12 +62,9 @@ impl Size {
         ensures { Decides result (CheckFits self.octets self.check (bits_of octets.now (8 * self.octets + self.check))) }
     {
         let field = self.check_over(octets);
-        for i in 0..self.check {
-            if bit_at(octets, 8 * self.octets + i) != bit_of(field, self.check - 1 - i) {
-                return false;
-            }
-        }
-        true
+        (0..self.check).all(|i| {
+            bit_at(octets, 8 * self.octets + i) == bit_of(field, self.check - 1 - i)
+        })
     }
 }
 

@@ -11,27 +11,32 @@ mod sizes;
 pub use bits::{bit_at, bit_of, octet};
 pub use checks::check_field;
 pub use plans::{back, plan};
+use thiserror::Error;
 
-// Why no size can be made.
-#[derive(Clone, Copy, Debug, PartialEq)]
+// Why no size can be made, and the number of each refusal.
+#[derive(Clone, Copy, Debug, PartialEq, Error)]
 pub enum SizeRefusal {
-    // 1: a message has 1 to 512 octets
-    Octets,
-    // 2: a check has 4, 12, 20 or 28 bits
-    CheckLength,
+    #[error("a report has 1 to 512 octets")]
+    Octets = 1,
+    #[error("a check has 4, 12, 20 or 28 bits")]
+    CheckLength = 2,
 }
 
 // Why no payload length, or no message length, can be answered.
-#[derive(Clone, Copy, Debug, PartialEq)]
+#[derive(Clone, Copy, Debug, PartialEq, Error)]
 pub enum PlanRefusal {
+    #[error("{0}")]
     Size(SizeRefusal),
-    // 3: a rate sends at most 24 further columns
+    // 3
+    #[error("a rate sends at most 24 further columns")]
     Rate,
-    // 5: no message length has this payload length
+    // 5
+    #[error("no message length has this payload length")]
     Length,
 }
 
-// A permitted size: the message's octets and the check's length in bits.
+// A permitted size: the message's octets and the check's length in bits. The length is a number and no enum, since all but
+// the polynomial reckon with it.
 #[derive(Clone, Copy, Debug, PartialEq)]
 pub struct Size {
     octets: usize,

@@ -10,6 +10,7 @@ impl PlanRefusal {
     pub fn number(self) -> u8
         ensures { result ≡ plan_number self }
     {
+        // A cast gives no number here, since a refusal for the size carries its own.
         match self {
             PlanRefusal::Size(refusal) => refusal.number(),
             PlanRefusal::Rate => 3,
@@ -28,34 +29,28 @@ impl Size {
     }
 }
 
-// P, from T, L and k.
+// P, from T, L and k. They come as numbers and no `Size`, since the call itself refuses what is none.
 pub fn plan(octets: usize, check: usize, k: usize) -> Result<usize, PlanRefusal>
     ensures { Answers (plan_checks octets check k) plan_number (λ p. p ≡ payload octets check k) result }
 {
-    let size = match Size::new(octets, check) {
-        Ok(size) => size,
-        Err(refusal) => return Err(PlanRefusal::Size(refusal)),
-    };
+    // by the case's name: of a derived `From` no clause says which case it makes
+    let size = Size::new(octets, check).map_err(PlanRefusal::Size)?;
     if k > 24 {
         return Err(PlanRefusal::Rate);
     }
     Ok(size.payload_at(k))
 }
 
-// The message length from 1 to 512 whose first payload has `p` octets.
+// The message length from 1 to 512 whose first payload has `p` octets. Each is asked by `Size::new`, since a closure that makes
+// a size itself would have to be told its bounds.
 fn octets_for(p: usize, check: usize, k: usize) -> Option<usize>
     requires { (check_permitted check ≡ true) × (k ≤ 24) }
     ensures { MatchOption result (some_size 512 p check k ≡ false) (λ octets. (some_size 512 p check k ≡ true) × OnlySize p check k octets) }
 {
-    for octets in 1..=512 {
-        if (Size { octets, check }).payload_at(k) == p {
-            return Some(octets);
-        }
-    }
-    None
+    (1..513).find(|octets| { Size::new(*octets, check).is_ok_and(|size| size.payload_at(k) == p) })
 }
 
-// T, from P, L and k.
+// T, from P, L and k, which come as numbers too.
 pub fn back(p: usize, check: usize, k: usize) -> Result<usize, PlanRefusal>
     ensures { Answers (back_checks p check k) plan_number (λ octets. OnlySize p check k octets) result }
 {
@@ -65,8 +60,5 @@ pub fn back(p: usize, check: usize, k: usize) -> Result<usize, PlanRefusal>
     if k > 24 {
         return Err(PlanRefusal::Rate);
     }
-    match octets_for(p, check, k) {
-        Some(octets) => Ok(octets),
-        None => Err(PlanRefusal::Length),
-    }
+    octets_for(p, check, k).ok_or(PlanRefusal::Length)
 }

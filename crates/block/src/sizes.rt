@@ -8,17 +8,14 @@ use crate::{Size, SizeRefusal};
 pub(crate) fn permits_check(check: usize) -> bool
     ensures { result ≡ check_permitted check }
 {
-    check == 4 || check == 12 || check == 20 || check == 28
+    matches!(check, 4 | 12 | 20 | 28)
 }
 
 impl SizeRefusal {
     pub fn number(self) -> u8
         ensures { result ≡ size_number self }
     {
-        match self {
-            SizeRefusal::Octets => 1,
-            SizeRefusal::CheckLength => 2,
-        }
+        self as u8
     }
 }
 
@@ -26,7 +23,7 @@ impl Size {
     pub fn new(octets: usize, check: usize) -> Result<Size, SizeRefusal>
         ensures { Answers (size_checks octets check) size_number (λ s. (s.octets ≡ octets) × (s.check ≡ check)) result }
     {
-        if octets == 0 || octets > 512 {
+        if !(1..=512).contains(&octets) {
             return Err(SizeRefusal::Octets);
         }
         if !permits_check(check) {

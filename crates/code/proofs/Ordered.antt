@@ -1,10 +1,9 @@
 -- Laws of column orders. Assumes nothing.
-use Rattle.std.proofs.Common.{◌≡◌, ℕ, zero, suc, ◌+◌, ◌<◌, ◌≤◌, true, false, cond, ◌&&◌, eqb, ltb, List, [], ◌∷◌, length, get_or, sym, refl, ap, ◌∙◌, inl, inr, suc-le-suc, zero-le, le_of_suc-le-suc, not-suc-le-zero, add-one, one-add, arith}
+use Rattle.std.proofs.Common.{Bool, Decides, MatchBool, ◌≡◌, ℕ, zero, suc, ◌+◌, ◌<◌, ◌≤◌, true, false, cond, ◌&&◌, eqb, ltb, List, [], ◌∷◌, length, get_or, sym, refl, ap, ◌∙◌, inl, inr, suc-le-suc, zero-le, le_of_suc-le-suc, not-suc-le-zero, one-add, arith}
 use Rattle.std.proofs.lemmas.Bool.{eq-eqb, ne_eqb, eqb-true, ltb-true, lt-ltb, and_parts, and_from, cases_eq, cases_Bool}
+use Rattle.std.specs.List.{AllWithin, HoldsAt, count_by}
+use Rattle.std.proofs.lemmas.List.Sums.{sum_by-cons}
 use Rattle.code.specs.Columns.{all_below, count_of, each_once, index_of, is_order}
-
-pub count_here : (a c : ℕ) (cs : List ℕ) → c ≡ a → count_of a (c ∷ cs) ≡ 1 + count_of a cs
-count_here a c cs e = ap (λ b. cond b 1 0 + count_of a cs) (eq-eqb c a e)
 
 pub count_not_here : (a c : ℕ) (cs : List ℕ) → (c ≡ a → ⊥) → count_of a (c ∷ cs) ≡ 0 + count_of a cs
 count_not_here a c cs d = ap (λ b. cond b 1 0 + count_of a cs) (ne_eqb c a d)
@@ -27,8 +26,10 @@ counted_index a (c ∷ cs) h =
           (omega (arith, later, rest.0), ap (λ i. get_or (c ∷ cs) i 0) (later ∙ one-add (index_of a cs)) ∙ rest.1)
     ]
 
-pub each_once_more : (n : ℕ) (cs : List ℕ) → each_once n cs ≡ true → count_of n cs ≡ 1 → each_once (n + 1) cs ≡ true
-each_once_more n cs all one = ap (λ m. each_once m cs) (add-one n) ∙ and_from _ _ (eq-eqb _ _ one) all
+-- counting is the library's
+pub counts : (a : ℕ) (cs : List ℕ) → count_by (λ c. eqb c a) cs ≡ count_of a cs
+counts a [] = refl
+counts a (c ∷ cs) = sum_by-cons (λ x. cond (eqb x a) 1 0) c cs ∙ ap (λ n. cond (eqb c a) 1 0 + n) (counts a cs)
 
 pub each_once_at : (n : ℕ) (cs : List ℕ) → each_once n cs ≡ true → (a : ℕ) → a < n → count_of a cs ≡ 1
 each_once_at zero cs all a h = absurd (not-suc-le-zero h)
@@ -37,6 +38,19 @@ each_once_at (suc n) cs all a h =
     elim (cases_eq n a) [
       | inl e ↦ sym (ap (λ m. count_of m cs) e) ∙ eqb-true _ _ parts.0
       | inr d ↦ each_once_at n cs parts.1 a (omega arith)
+    ]
+
+pub each_once_since : (n : ℕ) (cs : List ℕ) → ((a : ℕ) → a < n → count_of a cs ≡ 1) → each_once n cs ≡ true
+each_once_since zero cs all = refl
+each_once_since (suc n) cs all = and_from _ _ (eq-eqb _ _ (all n (omega arith))) (each_once_since n cs (λ a h. all a (omega arith)))
+
+-- a test that decides whether each number below n stands in the list once
+pub each_once_is : (n : ℕ) (cs : List ℕ) (r : Bool) → Decides r ((a : ℕ) → a < n → count_of a cs ≡ 1) → r ≡ each_once n cs
+each_once_is n cs true d = sym (each_once_since n cs (d.0 refl))
+each_once_is n cs false d =
+    elim (cases_Bool (each_once n cs)) [
+      | inl all ↦ d.1 (each_once_at n cs all) ∙ sym all
+      | inr not ↦ sym not
     ]
 
 pub all_below_more : (n c : ℕ) (cs : List ℕ) → all_below n (c ∷ cs) ≡ true → (c < n) × (all_below n cs ≡ true)
@@ -54,10 +68,12 @@ all_below_since n [] each = refl
 all_below_since n (c ∷ cs) each =
     and_from _ _ (lt-ltb c n (each 0 (suc-le-suc zero-le))) (all_below_since n cs (λ i h. each (suc i) (suc-le-suc h)))
 
-pub all_below_not : (n : ℕ) (cs : List ℕ) (i : ℕ) → i < length cs → n ≤ get_or cs i 0 → false ≡ all_below n cs
-all_below_not n cs i h big =
+-- a test of each number of the list
+pub all_below_is : (n : ℕ) (cs : List ℕ) (r : Bool) → MatchBool r (AllWithin (λ x. x < n) cs 0 (length cs)) ((k : ℕ) × (k < length cs) × HoldsAt (λ x. n ≤ x) cs k) → r ≡ all_below n cs
+all_below_is n cs true each = sym (all_below_since n cs (λ i h. each i 0 zero-le h))
+all_below_is n cs false some =
     elim (cases_Bool (all_below n cs)) [
-      | inl all ↦ absurd (let small = all_below_at n cs all i h in omega arith)
+      | inl all ↦ absurd (let small = all_below_at n cs all some.0 some.1 in let big = some.2 0 in omega arith)
       | inr not ↦ sym not
     ]
 
@@ -70,9 +86,6 @@ module _ (cs : List ℕ) (h : is_order cs ≡ true) where
   pub order_length : length cs ≡ 24
   order_length = eqb-true _ _ parts.0
 
-  pub order_below : (i : ℕ) → i < 24 → get_or cs i 0 < 24
-  order_below i l = all_below_at 24 cs (and_parts (all_below 24 cs) _ parts.1).0 i (omega (arith, order_length))
-
   pub order_once : (a : ℕ) → a < 24 → count_of a cs ≡ 1
   order_once = each_once_at 24 cs (and_parts _ (each_once 24 cs) parts.1).1
 
@@ -81,3 +94,11 @@ module _ (cs : List ℕ) (h : is_order cs ≡ true) where
   order_index a l =
       let found = counted_index a cs (omega (arith, order_once a l)) in
       (omega (arith, found.0, order_length), found.1)
+
+-- what lists no 24 numbers is no order
+pub not_order : (cs : List ℕ) → (length cs ≡ 24 → ⊥) → is_order cs ≡ false
+not_order cs d =
+    elim (cases_Bool (is_order cs)) [
+      | inl all ↦ absurd (d (order_length cs all))
+      | inr not ↦ not
+    ]

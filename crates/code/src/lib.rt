@@ -4,7 +4,9 @@
 ghost use Rattle.std.specs.Prelude.{◌≡◌, ◌<◌, true};
 ghost use Rattle.code.specs.Columns.{is_order};
 
+mod coded;
 mod encode;
+mod message;
 mod orders;
 mod peek;
 mod table;
@@ -13,10 +15,11 @@ mod trellis;
 use block::SizeRefusal;
 pub use encode::encode_report;
 pub use peek::peek_report;
+use thiserror::Error;
 pub use trellis::{feedback, step_from};
 
 // What the register answers to one bit: the outputs 1 to 4.
-#[derive(Clone, Copy, Debug, PartialEq)]
+#[derive(Clone, Copy, Debug, Default, PartialEq)]
 pub struct Outputs {
     pub v1: bool,
     pub v2: bool,
@@ -37,27 +40,33 @@ pub struct Register {
     ghost cells: { state < 16 },
 }
 
-// Why no column order can be made: 4, unless each of 0 to 23 stands among 24 numbers once.
-#[derive(Clone, Copy, Debug, PartialEq)]
+// Why no column order can be made, and the number of the refusal.
+#[derive(Clone, Copy, Debug, PartialEq, Error)]
 pub enum OrderRefusal {
-    Columns,
+    #[error("a column order lists 24 columns, each of 0 to 23 once")]
+    Columns = 4,
 }
 
 // Why a report is not encoded.
-#[derive(Clone, Copy, Debug, PartialEq)]
+#[derive(Clone, Copy, Debug, PartialEq, Error)]
 pub enum EncodeRefusal {
+    #[error("{0}")]
     Size(SizeRefusal),
-    // 6: the buffer has under 4 * N octets
+    // 6
+    #[error("the buffer has under 4 * N octets")]
     Buffer,
 }
 
 // Why a report is not read directly.
-#[derive(Clone, Copy, Debug, PartialEq)]
+#[derive(Clone, Copy, Debug, PartialEq, Error)]
 pub enum PeekRefusal {
+    #[error("{0}")]
     Size(SizeRefusal),
-    // 5: under N octets came
+    // 5
+    #[error("under N octets came")]
     Received,
-    // 6: the target has under T octets
+    // 6
+    #[error("the target has under T octets")]
     Target,
 }
 

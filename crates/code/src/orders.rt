@@ -10,49 +10,33 @@ use crate::{Order, OrderRefusal};
 fn count(numbers: &[u8], column: u8) -> usize
     ensures { result ≡ count_of column numbers.now }
 {
-    let mut n = 0;
-    for x in numbers {
-        if *x == column {
-            n += 1;
-        }
-    }
-    n
+    numbers.iter().filter(|number| **number == column).count()
 }
 
 // Whether each of 0 to 23 stands among the numbers once.
 fn lists_each_once(numbers: &[u8]) -> bool
     ensures { result ≡ each_once 24 numbers.now }
 {
-    for column in 0..24 {
-        if count(numbers, column) != 1 {
-            return false;
-        }
-    }
-    true
+    (0..24).all(|column| count(numbers, column) == 1)
 }
 
 fn all_columns(numbers: &[u8]) -> bool
     ensures { result ≡ all_below 24 numbers.now }
 {
-    for x in numbers {
-        if *x >= 24 {
-            return false;
-        }
-    }
-    true
+    numbers.iter().all(|number| *number < 24)
 }
 
-fn is_order(numbers: &[u8]) -> bool
+fn is_order(numbers: &[u8; 24]) -> bool
     ensures { result ≡ is_order numbers.now }
 {
-    numbers.len() == 24 && all_columns(numbers) && lists_each_once(numbers)
+    all_columns(numbers) && lists_each_once(numbers)
 }
 
 impl OrderRefusal {
     pub fn number(self) -> u8
         ensures { result ≡ order_number self }
     {
-        4
+        self as u8
     }
 }
 
@@ -82,23 +66,20 @@ impl Order {
     pub fn new(numbers: &[u8]) -> Result<Order, OrderRefusal>
         ensures { Answers (order_checks numbers.now) order_number (λ o. o.columns ≡ numbers.now) result }
     {
-        if !is_order(numbers) {
-            return Err(OrderRefusal::Columns);
+        match <[u8; 24]>::try_from(numbers) {
+            Ok(columns) if is_order(&columns) => Ok(Order { columns }),
+            _ => Err(OrderRefusal::Columns),
         }
-        let mut columns = [0; 24];
-        columns.copy_from_slice(numbers);
-        Ok(Order { columns })
     }
 
-    // The index at which a column stands; behind the last where there is no such column.
+    // The index at which a column stands; behind the last where there is no such column. No `Option`, since it is defined so,
+    // and each column of the 24 has one.
     pub fn index_of(&self, column: u8) -> usize
         ensures { result ≡ index_of column self.now.columns }
     {
-        for (i, x) in self.columns.iter().enumerate() {
-            if *x == column {
-                return i;
-            }
-        }
-        24
+        self.columns
+            .iter()
+            .position(|other| *other == column)
+            .unwrap_or(24)
     }
 }

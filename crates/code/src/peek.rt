@@ -11,6 +11,7 @@ impl PeekRefusal {
     pub fn number(self) -> u8
         ensures { result ≡ peek_number self }
     {
+        // A cast gives no number here, since a refusal for the size carries its own.
         match self {
             PeekRefusal::Size(refusal) => refusal.number(),
             PeekRefusal::Received => 5,
@@ -19,17 +20,18 @@ impl PeekRefusal {
     }
 }
 
-// Runs a new register over the first bits that came.
+// Runs a new register over the first bits that came. They end within an octet, so no slice has just them.
 fn run_bits(received: &[u8], bits: usize, register: &mut Register)
     requires { cells register.old ≡ cleared }
     ensures { cells register.new ≡ after cleared (bits_of received.now bits) }
 {
+    // By position, as `bit_at` is asked: an iterator over bits would only wrap this range.
     for t in 0..bits {
         let _ = register.push(bit_at(received, t));
     }
 }
 
-// Whether the four bits behind the first `bits` are the tail that belongs to them.
+// Whether the four bits behind the first `bits` are the tail that belongs to them; `bits` as above.
 fn tail_fits(received: &[u8], bits: usize) -> bool
     requires { bits < 2 ^ 32 }
     ensures { Decides result (TailFits received.now bits) }
@@ -37,22 +39,11 @@ fn tail_fits(received: &[u8], bits: usize) -> bool
     let mut register = Register::open();
     run_bits(received, bits, &mut register);
     let tail = register.close();
-    for i in 0..4 {
-        if bit_at(received, bits + i) != tail[i].v1 {
-            return false;
-        }
-    }
-    true
+    (0..4).all(|i| bit_at(received, bits + i) == tail[i].v1)
 }
 
-fn copy_front(from: &[u8], to: &mut [u8], count: usize)
-    requires { (count ≤ length from.now) × (count ≤ length to.old) }
-    ensures { to.new ≡ take count from.now ++ drop count to.old }
-{
-    to[0..count].copy_from_slice(&from[0..count]);
-}
-
-// Writes the report's octets as they came, and tells whether check and tail fit.
+// Writes the report's octets as they came, and tells whether check and tail fit. T and L come as numbers, since the call itself
+// refuses what is no size.
 pub fn peek_report(
     received: &[u8],
     octets: usize,
@@ -61,17 +52,14 @@ pub fn peek_report(
 ) -> Result<Peeked, PeekRefusal>
     ensures { PeekDoes received.now octets check target.old target.new result }
 {
-    let size = match Size::new(octets, check) {
-        Ok(size) => size,
-        Err(refusal) => return Err(PeekRefusal::Size(refusal)),
-    };
+    let size = Size::new(octets, check).map_err(PeekRefusal::Size)?;
     if received.len() < size.block_octets() {
         return Err(PeekRefusal::Received);
     }
     if target.len() < octets {
         return Err(PeekRefusal::Target);
     }
-    copy_front(received, target, octets);
+    target[..octets].copy_from_slice(&received[..octets]);
     Ok(Peeked {
         check_fits: size.check_fits(received),
         tail_fits: tail_fits(received, 8 * octets + check),

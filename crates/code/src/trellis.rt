@@ -27,7 +27,7 @@ pub fn step_from(state: u8, bit: bool) -> Step
 pub fn feedback(state: u8) -> bool
     ensures { result ≡ feed (cells_of state) }
 {
-    let state = state as u32;
+    let state = u32::from(state);
     bit_of(state, 0) ^ (bit_of(state, 2) ^ bit_of(state, 3))
 }
 
@@ -43,7 +43,7 @@ impl Register {
         ensures answer { result ≡ outputs (cells self.old) bit }
         ensures after { cells self.new ≡ next (cells self.old) bit }
     {
-        let step = step_of(&TRELLIS, self.state, bit);
+        let step = step_from(self.state, bit);
         self.state = step.next;
         step.outputs
     }
@@ -61,11 +61,14 @@ impl Register {
         ensures answer { result ≡ trace (cells self) (tail (cells self)) }
         ensures clears { after (cells self) (tail (cells self)) ≡ cleared }
     {
-        let first = self.push_feedback();
-        let second = self.push_feedback();
-        let third = self.push_feedback();
-        let fourth = self.push_feedback();
+        // Written out, since a closure that pushes would hide that each call finds another state.
+        let outputs = [
+            self.push_feedback(),
+            self.push_feedback(),
+            self.push_feedback(),
+            self.push_feedback(),
+        ];
         let Register { state: _ } = self;
-        [first, second, third, fourth]
+        outputs
     }
 }

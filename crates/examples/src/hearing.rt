@@ -2,6 +2,7 @@
 use code::Order;
 use search::{Entry, FindRefusal};
 use sheet::Sheet;
+use std::test::Fail;
 use weighing::Reading;
 use weighing::hard::Hard;
 use weighing::soft::Soft;
@@ -54,14 +55,10 @@ fn levels(rt: HostRuntime) {
 }
 
 #[test]
-fn too_little_room(rt: HostRuntime) {
+fn too_little_room(rt: HostRuntime) -> Result<(), Fail> {
     let mut tally = [Entry { zero: 0, one: 0 }; 64];
-    let sheet = Sheet::<Worst>::open(1, 4, Order::order_r(), &mut tally);
-    let refusal = match sheet {
-        Ok(sheet) => sheet
-            .decode(&tally, &mut [0; 1], &mut [0; 16], &mut [None; 32])
-            .err(),
-        Err(_) => None,
-    };
-    assert_eq!(rt; refusal, Some(FindRefusal::Short));
+    let sheet = Sheet::<Worst>::open(1, 4, Order::order_r(), &mut tally)?;
+    let found = sheet.decode(&tally, &mut [0; 1], &mut [0; 16], &mut [None; 32]);
+    assert_eq!(rt; found.err(), Some(FindRefusal::Short));
+    Ok(())
 }

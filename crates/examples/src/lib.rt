@@ -28,10 +28,7 @@ mod tests {
 
     // The outputs v1 to v4 as one number, v1 highest.
     fn number(v: Outputs) -> u8 {
-        (if v.v1 { 8 } else { 0 })
-            + (if v.v2 { 4 } else { 0 })
-            + (if v.v3 { 2 } else { 0 })
-            + (if v.v4 { 1 } else { 0 })
+        8 * u8::from(v.v1) + 4 * u8::from(v.v2) + 2 * u8::from(v.v3) + u8::from(v.v4)
     }
 
     #[test]

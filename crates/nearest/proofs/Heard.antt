@@ -53,18 +53,13 @@ module _ (places : ℕ) (f : ℕ → Bool) (p : ℕ) (b : Bool) where
   sum_miss (suc m) w q h out =
       let apart : q ≡ p → ⊥ = λ e. elim out [ inl x ↦ omega arith | inr x ↦ omega arith ] in
       let next : (p < suc q) ⊎ (suc q + m ≤ p) = elim out [ inl x ↦ inl (omega arith) | inr x ↦ inr (omega arith) ] in
-      sum_more w q m (omega arith) ∙ ap (λ c. sum (cond c (counted.plus w (weighs (f q) b)) w) (suc q) m) (ne_eqb q p apart) ∙ sum_miss m w (suc q) (omega arith) next
+      cc (sum_more w q m (omega arith), ne_eqb q p apart, sum_miss m w (suc q) (omega arith) next)
 
   -- one that is among them has its own symbol added
   pub sum_hit : (m : ℕ) (w : Weight) (q : ℕ) → q + m ≤ places → q ≤ p → p < q + m → sum w q m ≡ counted.plus w (weighs (f p) b)
   sum_hit zero w q h low high = absurd (omega arith)
   sum_hit (suc m) w q h low high =
       elim (cases_eq q p) [
-        | inl e ↦
-            sum_more w q m (omega arith) ∙ ap (λ c. sum (cond c (counted.plus w (weighs (f q) b)) w) (suc q) m) (eq-eqb q p e)
-            ∙ sum_miss m (counted.plus w (weighs (f q) b)) (suc q) (omega arith) (inl (omega arith))
-            ∙ ap (λ x. counted.plus w (weighs (f x) b)) e
-        | inr d ↦
-            sum_more w q m (omega arith) ∙ ap (λ c. sum (cond c (counted.plus w (weighs (f q) b)) w) (suc q) m) (ne_eqb q p d)
-            ∙ sum_hit m w (suc q) (omega arith) (omega arith) (omega arith)
+        | inl e ↦ cc (sum_more w q m (omega arith), eq-eqb q p e, sum_miss m (counted.plus w (weighs (f q) b)) (suc q) (omega arith) (inl (omega arith)))
+        | inr d ↦ cc (sum_more w q m (omega arith), ne_eqb q p d, sum_hit m w (suc q) (omega arith) (omega arith) (omega arith))
       ]

@@ -12,7 +12,7 @@ use Rattle.code.proofs.Ordered.{order_index}
 held_later : (order : List ℕ) (n j r : ℕ) → r < n → (column_at order n (8 * n + n * j + r) ≡ get_or order j 0) × (row_at n (8 * n + n * j + r) ≡ r)
 held_later order n j r h =
     let off : 8 * n + n * j + r - 8 * n ≡ j * n + r = omega (arith, mul_comm n j) in
-    (ap (λ x. get_or order (x / n) 0) off ∙ ap (λ x. get_or order x 0) (div-mul-add j n r h), ap (λ x. x % n) off ∙ mod-mul-add j n r h)
+    (cc (off, div-mul-add j n r h), cc (off, mod-mul-add j n r h))
 
 pub place_back : (order : List ℕ) → is_order order ≡ true → (n : ℕ) (steps : List Outputs) (o t : ℕ) → 1 ≤ o → o ≤ 4 → t < 8 * n
     → place_bit order n steps (place_of order n o t) ≡ output o (get_or steps t silent.outputs)

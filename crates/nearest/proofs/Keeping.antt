@@ -49,8 +49,8 @@ module _ {V A : Type 0} (W : Type 0) (g : Ghosts W V) (s : Scale V) (reads : ℕ
     same_kept before after kept tally count book = record {
       ordered = kept.ordered;
       whole = kept.whole;
-      entries = λ p b h. ap (λ t. entry_sums s t p b) tally ∙ kept.entries p b h ∙ ap (λ k. book_sums reads s against (32 * block_octets octets check) k p b) (sym book);
-      counted = count ∙ kept.counted ∙ ap (λ (k : Book). k.count) (sym book);
+      entries = λ p b h. cc (kept.entries p b h);
+      counted = cc;
     }
 
     take_kept : (before after : Standing V) (start : ℕ) (symbols : List ℕ) (r : Result ℕ TakeRefusal) → Kept before
@@ -60,13 +60,8 @@ module _ {V A : Type 0} (W : Type 0) (g : Ghosts W V) (s : Scale V) (reads : ℕ
     take_kept before after start symbols (Ok total) kept does book = record {
       ordered = kept.ordered;
       whole = kept.whole;
-      entries = λ p b h.
-          let places = 32 * block_octets octets check in
-          does.3.sums p b h
-          ∙ ap (λ w. sum_behind reads s against w p b (laid reads places (8 * start) symbols)) (kept.entries p b h)
-          ∙ sym (noted_sum places before.book start symbols p b)
-          ∙ ap (λ k. book_sums reads s against places k p b) (sym book);
-      counted = does.2 ∙ does.1 ∙ ap (λ c. c + length symbols) kept.counted ∙ ap (λ (k : Book). k.count) (sym book);
+      entries = λ p b h. cc (does.3.sums p b h, kept.entries p b h, noted_sum (32 * block_octets octets check) before.book start symbols p b);
+      counted = cc (does.1, does.2);
     }
 
     wipe_kept : (before after : Standing V) (r : Result Unit WipeRefusal) → Kept before
@@ -76,10 +71,8 @@ module _ {V A : Type 0} (W : Type 0) (g : Ghosts W V) (s : Scale V) (reads : ℕ
     wipe_kept before after (Ok x) kept does book = record {
       ordered = kept.ordered;
       whole = kept.whole;
-      entries = λ p b h.
-          let places = 32 * block_octets octets check in
-          does.1.0.zeros p b h ∙ sym (empty_sum places p b) ∙ ap (λ k. book_sums reads s against places k p b) (sym book);
-      counted = does.1.1 ∙ ap (λ (k : Book). k.count) (sym book);
+      entries = λ p b h. cc (does.1.0.zeros p b h, empty_sum (32 * block_octets octets check) p b);
+      counted = cc does.1.1;
     }
 
     pub call_kept : (before after : Standing V) → Kept before → Call W g s reads against octets check order before after → Kept after
@@ -91,12 +84,10 @@ module _ {V A : Type 0} (W : Type 0) (g : Ghosts W V) (s : Scale V) (reads : ℕ
     open_kept : (st : Standing V) (tally : List (Entry V)) (sheet : Sheet W V g) → OpenDoes s octets check order tally st.tally (Ok sheet)
         → st.count ≡ sheet.count → st.book ≡ empty → Kept st
     open_kept st tally sheet does count book = record {
-      ordered = subst (λ cs. is_order cs ≡ true) does.1.order_is sheet.order.each;
+      ordered = cc (does.1.order_is, sheet.order.each);
       whole = omega (arith, does.1.octets_are, does.1.check_is, sheet.size.odd_half);
-      entries = λ p b h.
-          let places = 32 * block_octets octets check in
-          does.1.cleared.zeros p b h ∙ sym (empty_sum places p b) ∙ ap (λ k. book_sums reads s against places k p b) (sym book);
-      counted = count ∙ does.1.none_taken ∙ ap (λ (k : Book). k.count) (sym book);
+      entries = λ p b h. cc (does.1.cleared.zeros p b h, empty_sum (32 * block_octets octets check) p b);
+      counted = cc does.1.none_taken;
     }
 
     pub run_kept : {st : Standing V} → Run W g s reads against octets check order st → Kept st
@@ -116,7 +107,7 @@ module _ {V A : Type 0} (W : Type 0) (g : Ghosts W V) (s : Scale V) (reads : ℕ
         let long : length mine ≡ bits = length-map-range_with_len (bit_at target') 0 bits in
         record {
           written = names.written;
-          weighs = names.weighs ∙ same mine long;
+          weighs = cc (same mine long);
           nearest = λ other e. subst (λ x. s.atmost x (weight s order n (book_sums reads s against (32 * n) st.book) other)) (same mine long)
               (subst (s.atmost (weight s order n (entry_sums s st.tally) mine)) (same other e) (names.nearest other e));
           verdict = names.verdict;
@@ -126,7 +117,7 @@ module _ {V A : Type 0} (W : Type 0) (g : Ghosts W V) (s : Scale V) (reads : ℕ
     by_the_book st kept = record {
       entries = kept.entries;
       counted = kept.counted;
-      take_answers = λ start symbols tally count total does. does.1 ∙ ap (λ c. c + length symbols) kept.counted;
+      take_answers = λ start symbols tally count total does. cc does.1;
       decode_names = λ target target' words words' paths paths' found does. names_by_book st kept target target' found does.1.0;
     }
 

@@ -16,14 +16,14 @@ use Rattle.sheet.specs.declared.TakeRefusal.{TakeRefusal}
 use Rattle.nearest.specs.Runs.{ThreeCalls, after_take, called, decodes, opened, standing, takes}
 
 module _ {V A : Type 0} (W : Type 0) (g : Ghosts W V) (s : Scale V) (reads : ℕ → Option A) (against : A → Bool → V) where
-  pub three_calls : (octets check : ℕ) (order columns : List ℕ) (tally₀ tally₁ tally₂ : List (Entry V)) (sheet after : Sheet W V g)
-      → columns ≡ order → OpenDoes s octets check columns tally₀ tally₁ (Ok sheet) → (start : ℕ) (symbols : List ℕ) (r : Result ℕ TakeRefusal)
+  pub three_calls : {octets check : ℕ} {order : List ℕ} {tally₀ tally₂ : List (Entry V)} {after : Sheet W V g} {start : ℕ} {symbols : List ℕ} {r : Result ℕ TakeRefusal}
+      {target target' words words' : List ℕ} {paths paths' : List (Option V)} {d : Result (Found V) FindRefusal} (columns : List ℕ) (tally₁ : List (Entry V)) (sheet : Sheet W V g)
+      → columns ≡ order → OpenDoes s octets check columns tally₀ tally₁ (Ok sheet)
       → TakeDoes s reads against (block_octets sheet.size.octets sheet.size.check) sheet.count after.count tally₁ tally₂ start symbols r
       → after.size ≡ sheet.size → after.order ≡ sheet.order
-      → (target target' words words' : List ℕ) (paths paths' : List (Option V)) (d : Result (Found V) FindRefusal)
       → FindDoes s after.size.octets after.size.check after.order.columns tally₂ target target' words words' paths paths' d
       → ThreeCalls W g s reads against octets check order start symbols tally₀ tally₂ target target' words words' paths paths' after r d
-  three_calls octets check order columns tally₀ tally₁ tally₂ sheet after same does start symbols r take size ordered target target' words words' paths paths' d find =
+  three_calls {octets} {check} {order} {tally₀} {tally₂} {after} {start} {symbols} {r} {target} {target'} {words} {words'} {paths} {paths'} {d} columns tally₁ sheet same does take size ordered find =
       let made = does.1 in
       let t = made.octets_are in
       let l = made.check_is in

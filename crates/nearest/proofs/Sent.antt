@@ -1,10 +1,10 @@
 -- An undamaged first payload decodes to what was sent. Assumes nothing.
-use Rattle.std.proofs.Common.{◌≡◌, ℕ, ◌+◌, ◌*◌, ◌<◌, ◌≤◌, Bool, true, false, List, length, get_or, drop, sym, ap, ◌∙◌, subst, inl, inr, mul-le-mul_left, arith, lit≤}
+use Rattle.std.proofs.Common.{◌≡◌, ℕ, zero-add, ◌+◌, ◌*◌, ◌<◌, ◌≤◌, Bool, true, false, List, length, get_or, drop, sym, ap, ◌∙◌, inl, inr, mul-le-mul_left, arith, lit≤}
 use Rattle.std.proofs.lemmas.List.FromFn.{length-map-range_with_len}
 use Rattle.std.proofs.lemmas.List.{ext_get_or, get_or_append_left}
 use Rattle.std.proofs.lemmas.Bool.{cases_lt}
 use Rattle.block.specs.Bits.{bit_at, bits_of}
-use Rattle.block.specs.Checks.{report_bit, report_message}
+use Rattle.block.specs.Checks.{report_message}
 use Rattle.block.specs.Sizes.{block_octets, payload}
 use Rattle.block.proofs.Octets.{bit_at_octets}
 use Rattle.code.specs.Columns.{is_order}
@@ -49,16 +49,14 @@ module _ (order : List ℕ) (is : is_order order ≡ true) (n m : ℕ) (all : 8 
   sent_part t h o low high =
       let p = place_of order n o t in
       let small = place_small order is n o t low high h in
-      ap (entry_sums counted tally p) (sym (holds p small ∙ place_back order is n (coded sent) o t low high h)) ∙ own p small
+      cc (holds p small, place_back order is n (coded sent) o t low high h, own p small)
 
   -- so the message sent weighs nothing
   sent_weight : weight counted order n (entry_sums counted tally) sent ≡ counted.zero
   unfolding weight
   sent_weight =
       added_none counted order n (entry_sums counted tally) (coded sent) counted.zero 0
-      (λ i h o low high. let at : i ≡ 0 + i = omega arith in
-      subst (λ x. part counted order n (entry_sums counted tally) x (get_or (coded sent) i silent.outputs) o ≡ counted.zero) at
-      (sent_part i (omega (arith, steps_long sent whole)) o low high))
+      (λ i h o low high. cc (zero-add i, sent_part i (omega (arith, steps_long sent whole)) o low high))
 
   -- bit t of a message with its tail, as the register gives it back
   given_bit : (message : List Bool) → length message + 4 ≡ 8 * n → (t : ℕ) → t < 8 * n → output 1 (get_or (coded message) t silent.outputs) ≡ get_or (with_tail message) t false
@@ -68,8 +66,7 @@ module _ (order : List ℕ) (is : is_order order ≡ true) (n m : ℕ) (all : 8 
   heard_bit : (other : List Bool) → length other + 4 ≡ 8 * n → weight counted order n (entry_sums counted tally) other ≡ counted.zero → (t : ℕ) → t < 8 * n → get_or (with_tail other) t false ≡ f t
   unfolding weight part place_of
   heard_bit other e none t h =
-      let zero_part : entry_sums counted tally t (output 1 (get_or (coded other) t silent.outputs)) ≡ counted.zero =
-      first_zero counted order n (entry_sums counted tally) (coded other) t (omega (arith, steps_long other e)) none in
+      let zero_part = first_zero counted order n (entry_sums counted tally) (coded other) t (omega (arith, steps_long other e)) none in
       sym (given_bit other e t h) ∙ own_weighs (f t) _ (sym (hit t _ (omega arith)) ∙ zero_part)
 
   sent_bit : (t : ℕ) → t < 8 * n → f t ≡ get_or (with_tail sent) t false
@@ -80,13 +77,16 @@ module _ (order : List ℕ) (is : is_order order ≡ true) (n m : ℕ) (all : 8 
   pub same_message : (other : List Bool) → length other + 4 ≡ 8 * n → weight counted order n (entry_sums counted tally) other ≡ counted.zero → other ≡ sent
   same_message other e none =
       ext_get_or false other sent (omega arith)
-      (λ i h. sym (get_or_append_left other (tail (after cleared other)) false i h)
-      ∙ heard_bit other e none i (omega arith) ∙ sent_bit i (omega arith)
-      ∙ get_or_append_left sent (tail (after cleared sent)) false i (omega arith))
+      (λ i h. cc (
+        get_or_append_left other (tail (after cleared other)) false i h,
+        heard_bit other e none i (omega arith),
+        sent_bit i (omega arith),
+        get_or_append_left sent (tail (after cleared sent)) false i (omega arith),
+      ))
 
   -- and what is nearest weighs nothing
   pub nearest_zero : (w : counted.Meaning) → counted.atmost w (weight counted order n (entry_sums counted tally) sent) → w ≡ counted.zero
-  nearest_zero w le = only_zero counted order n (entry_sums counted tally) w (subst (counted.atmost w) sent_weight le)
+  nearest_zero w le = only_zero counted order n (entry_sums counted tally) w (rw sent_weight at le)
 
 module _ (W : Type 0) (g : Ghosts W ℕ) where
   pub decodes_what_was_sent : DecodesWhatWasSent W g
@@ -98,20 +98,20 @@ module _ (W : Type 0) (g : Ghosts W ℕ) where
       let sent = report_message report octets check in
       let f = bit_at buffer in
       let long = payload_long octets check k rate in
-      let is : is_order order ≡ true = subst (λ cs. is_order cs ≡ true) opens.1.order_is sheet.order.each in
+      let is : is_order order ≡ true = cc (opens.1.order_is, sheet.order.each) in
       let size : 8 * octets + check + 4 ≡ 8 * n = omega (arith, opens.1.octets_are, opens.1.check_is, sheet.size.odd_half) in
-      let sent_long : length sent + 4 ≡ 8 * n = ap (λ x. x + 4) (length-map-range_with_len (report_bit report octets check) 0 bits) ∙ size in
+      let sent_long : length sent + 4 ≡ 8 * n = rw length-map-range_with_len size in
       let holds : (p : ℕ) → p < 32 * n → f p ≡ place_bit order n (coded sent) p =
-      λ p h. ap (λ xs. bit_at xs p) encode.1 ∙ bit_at_octets (place_bit order n (coded sent)) (4 * n) (drop (4 * n) before) p (omega arith) in
+      λ p h. cc (encode.1, bit_at_octets (place_bit order n (coded sent)) (4 * n) (drop (4 * n) before) p (omega arith)) in
       let laid_sum : (p : ℕ) (b : Bool) → p < 32 * n → entry_sums counted taken p b ≡ sum_of p b =
-      λ p b h. take.3.sums p b h ∙ ap (λ w. sum_behind hard_reads counted hard_weight w p b (laid hard_reads (32 * n) 0 (heard buffer (payload octets check k)))) (opens.1.cleared.zeros p b h) in
+      λ p b h. cc (take.3.sums p b h, opens.1.cleared.zeros p b h) in
       let hit : (p : ℕ) (b : Bool) → p < m → entry_sums counted taken p b ≡ weighs (f p) b =
       λ p b h. laid_sum p b (omega arith) ∙ sum_hit (32 * n) f p b m counted.zero 0 (omega arith) (omega arith) (omega arith) ∙ counted.laws.zero_left (weighs (f p) b) in
       let miss : (p : ℕ) (b : Bool) → m ≤ p → p < 32 * n → entry_sums counted taken p b ≡ counted.zero =
       λ p b low h. laid_sum p b h ∙ sum_miss (32 * n) f p b m counted.zero 0 (omega arith) (inr (omega arith)) in
       let names = find.1.0 in
       let mine = bits_of target' bits in
-      let mine_long : length mine + 4 ≡ 8 * n = ap (λ x. x + 4) (length-map-range_with_len (bit_at target') 0 bits) ∙ size in
+      let mine_long : length mine + 4 ≡ 8 * n = rw length-map-range_with_len size in
       let none : weight counted order n (entry_sums counted taken) mine ≡ counted.zero =
       nearest_zero order is n m (omega arith) (omega arith) f sent sent_long holds taken hit miss _ (names.nearest sent (omega arith)) in (
         same_message order is n m (omega arith) (omega arith) f sent sent_long holds taken hit miss mine mine_long none,

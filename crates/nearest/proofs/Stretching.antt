@@ -1,5 +1,5 @@
 -- Without a performed wipe no entry gets lighter, so no decoded weight falls. Assumes nothing.
-use Rattle.std.proofs.Common.{◌≡◌, ℕ, ◌+◌, ◌*◌, ◌<◌, Bool, cond, eqb, List, [], ◌∷◌, length, Ok, Err, Option, Result, sym, ap, subst, arith}
+use Rattle.std.proofs.Common.{◌≡◌, ℕ, ◌+◌, ◌*◌, ◌<◌, Bool, cond, eqb, List, [], ◌∷◌, length, Ok, Err, Option, Result, ap, arith}
 use Rattle.std.proofs.lemmas.List.FromFn.{length-map-range_with_len}
 use Rattle.std.proofs.lemmas.Bool.{cond_both}
 use Rattle.block.specs.Bits.{bit_at, bits_of}
@@ -31,14 +31,13 @@ module _ {V A : Type 0} (W : Type 0) (g : Ghosts W V) (s : Scale V) (reads : ℕ
     Grows before after = (p : ℕ) (b : Bool) → p < 32 * block_octets octets check → s.atmost (entry_sums s before.tally p b) (entry_sums s after.tally p b)
 
     same_grows : (before after : Standing V) → after.tally ≡ before.tally → Grows before after
-    same_grows before after same p b h = subst (λ t. s.atmost (entry_sums s before.tally p b) (entry_sums s t p b)) (sym same) (reflexive s (entry_sums s before.tally p b))
+    same_grows before after same p b h = rw same (reflexive s (entry_sums s before.tally p b))
 
     take_grows : (before after : Standing V) (start : ℕ) (symbols : List ℕ) (r : Result ℕ TakeRefusal)
         → TakeDoes s reads against (block_octets octets check) before.count after.count before.tally after.tally start symbols r → Grows before after
     take_grows before after start symbols (Err e) does p b h = same_grows before after does.2 p b h
     take_grows before after start symbols (Ok total) does p b h =
-        let places = 32 * block_octets octets check in
-        subst (s.atmost (entry_sums s before.tally p b)) (sym (does.3.sums p b h)) (sum_grows (laid reads places (8 * start) symbols) (entry_sums s before.tally p b) p b)
+        rw (does.3.sums p b h) (sum_grows (laid reads (32 * block_octets octets check) (8 * start) symbols) (entry_sums s before.tally p b) p b)
 
     call_grows : (before after : Standing V) (call : Call W g s reads against octets check order before after) → NoWipe W g s reads against octets check order call → Grows before after
     call_grows before after (takes start symbols r does book) clean = take_grows before after start symbols r does
@@ -59,8 +58,6 @@ module _ {V A : Type 0} (W : Type 0) (g : Ghosts W V) (s : Scale V) (reads : ℕ
       let second = bits_of target₂' bits in
       let long : length second ≡ bits = length-map-range_with_len (bit_at target₂') 0 bits in
       let before = weight s order n (entry_sums s first.tally) second in
-      let after = weight s order n (entry_sums s later.tally) second in
-      subst (λ x. s.atmost x (s.mean found₂.weight)) (sym does₁.1.0.weighs)
-      (subst (s.atmost _) (sym does₂.1.0.weighs)
+      rw (does₁.1.0.weighs, does₂.1.0.weighs)
       (s.laws.transitive _ before _ (does₁.1.0.nearest second long)
-      (weight_grows s order kept.ordered n _ _ (stretch_grows octets check order first stretch) second (omega (arith, kept.whole)))))
+      (weight_grows s order kept.ordered n _ _ (stretch_grows octets check order first stretch) second (omega (arith, kept.whole))))

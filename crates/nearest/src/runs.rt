@@ -9,31 +9,8 @@ use search::Entry;
 use sheet::Sheet;
 use weighing::Reading;
 
-// Opens a sheet for one octet and a check of four bits, takes octets from octet 7 on, and decodes into whatever it is lent.
-fn run_calls<R: Reading>(
-    tally: &mut [Entry<R::Value>],
-    octets: &[u8],
-    target: &mut [u8],
-    survivors: &mut [u16],
-    paths: &mut [Option<R::Value>],
-) -> ShortRun<R>
-    requires { 64 ≤ length tally.old }
-    ensures { ThreeCalls R R.Weighing R.Weighing.scale R.Reading.reads R.Reading.against 1 4 order_r 7 octets.now tally.old tally.new target.old target.new survivors.old survivors.new paths.old paths.new result.sheet result.taken result.found }
-{
-    let mut sheet = match Sheet::<R>::open(1, 4, Order::order_r(), tally) {
-        Ok(sheet) => sheet,
-        Err(_) => unreachable(),
-    };
-    let taken = sheet.take(tally, 7, octets);
-    let found = sheet.decode(tally, target, survivors, paths);
-    ShortRun {
-        sheet,
-        taken,
-        found,
-    }
-}
-
-// The same, or nothing at all where the tally has under 64 entries.
+// Opens a sheet for one octet and a check of four bits, takes octets from octet 7 on, and decodes into whatever it is lent;
+// or nothing at all where the tally has under 64 entries.
 pub fn short_run<R: Reading>(
     tally: &mut [Entry<R::Value>],
     octets: &[u8],
@@ -43,8 +20,12 @@ pub fn short_run<R: Reading>(
 ) -> Option<ShortRun<R>>
     ensures { MatchOption result ((length tally.old < 64) × (tally.new ≡ tally.old) × (target.new ≡ target.old) × (survivors.new ≡ survivors.old) × (paths.new ≡ paths.old)) (λ run. ThreeCalls R R.Weighing R.Weighing.scale R.Reading.reads R.Reading.against 1 4 order_r 7 octets.now tally.old tally.new target.old target.new survivors.old survivors.new paths.old paths.new run.sheet run.taken run.found) }
 {
-    if tally.len() < 64 {
-        return None;
-    }
-    Some(run_calls::<R>(tally, octets, target, survivors, paths))
+    let mut sheet = Sheet::<R>::open(1, 4, Order::order_r(), tally).ok()?;
+    let taken = sheet.take(tally, 7, octets);
+    let found = sheet.decode(tally, target, survivors, paths);
+    Some(ShortRun {
+        sheet,
+        taken,
+        found,
+    })
 }

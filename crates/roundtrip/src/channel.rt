@@ -1,20 +1,40 @@
 // A bad channel that is the same in every run: it turns some bits and mutes others. A turned bit is heard with less level.
+use block::bit_of;
 use std::alloc::{AllocError, Global};
-
-// How the receiver notes a bit: as 0, 1 or 2 for missing, or as a level, whose sign is the bit and whose size says how sure it is.
-#[derive(Clone, Copy)]
-pub(crate) enum Notes {
-    Bits,
-    Levels,
-}
+use weighing::Reading;
+use weighing::hard::Hard;
+use weighing::soft::Soft;
+use weighing::worst::Worst;
 
 // What the channel does to one bit.
 #[derive(Clone, Copy)]
-enum Fate {
+pub(crate) enum Fate {
     Clean,
     Turned,
     Mute,
 }
+
+// A reading whose receiver notes each bit as an octet, which the reading then reads: as a level, if it says no other.
+pub(crate) trait Noted: Reading {
+    fn note(noise: &mut Noise, bit: bool, fate: Fate) -> u8 {
+        noise.level(bit, fate)
+    }
+}
+
+impl Noted for Hard {
+    // 0, 1, or 2 for missing.
+    fn note(_noise: &mut Noise, bit: bool, fate: Fate) -> u8 {
+        match fate {
+            Fate::Clean => bit as u8,
+            Fate::Turned => !bit as u8,
+            Fate::Mute => 2,
+        }
+    }
+}
+
+impl Noted for Soft {}
+
+impl Noted for Worst {}
 
 // A level of this size for a bit, as an octet in two's complement.
 fn level(heard: bool, size: u8) -> u8 {
@@ -40,24 +60,20 @@ impl Noise {
         }
     }
 
-    // The octet that the receiver notes for a bit that met this fate.
-    fn note(&mut self, bit: bool, fate: Fate, notes: Notes) -> u8 {
-        match (fate, notes) {
-            (Fate::Mute, Notes::Bits) => 2,
-            (Fate::Mute, Notes::Levels) => 0,
-            (Fate::Turned, Notes::Bits) => !bit as u8,
-            (Fate::Clean, Notes::Bits) => bit as u8,
-            (Fate::Turned, Notes::Levels) => level(!bit, self.next() % 16 + 1),
-            (Fate::Clean, Notes::Levels) => level(bit, self.next() % 64 + 33),
+    // A level, whose sign is the bit and whose size says how sure it is; 0 is missing.
+    fn level(&mut self, bit: bool, fate: Fate) -> u8 {
+        match fate {
+            Fate::Clean => level(bit, self.next() % 64 + 33),
+            Fate::Turned => level(!bit, self.next() % 16 + 1),
+            Fate::Mute => 0,
         }
     }
 
     // One symbol for each bit of the octets, bit 1 of each octet first.
-    pub(crate) fn hear(
+    pub(crate) fn hear<R: Noted>(
         &mut self,
         heap: Global,
         octets: &[u8],
-        notes: Notes,
     ) -> Result<Heard, AllocError> {
         let mut heard = Heard {
             symbols: Vec::new(heap),
@@ -65,12 +81,13 @@ impl Noise {
             muted: 0,
         };
         for octet in octets {
-            for i in 0..8u8 {
+            // by position, as `bit_of` is asked
+            for i in 0..8 {
                 let fate = self.fate();
                 heard.count(fate);
                 heard
                     .symbols
-                    .push(self.note((*octet >> i) % 2 == 1, fate, notes))?;
+                    .push(R::note(self, bit_of(u32::from(*octet), i), fate))?;
             }
         }
         Ok(heard)
@@ -86,6 +103,7 @@ pub(crate) struct Heard {
 }
 
 impl Heard {
+    // The counts saturate, since nothing bounds what is heard.
     fn count(&mut self, fate: Fate) {
         match fate {
             Fate::Clean => {}

@@ -1,219 +1,168 @@
 // The receiving side: what arrives is taken onto a sheet and decoded until the check fits. One text for every reading.
-use crate::channel::{Heard, Noise, Notes};
-use crate::hex::Text;
-use crate::sending::{Report, send_first, send_more};
-use anyhow::anyhow;
+use crate::channel::{Noise, Noted};
+use crate::sending::{Ending, Report, Sending};
+use crate::text::Text;
 use code::Order;
-use search::Entry;
-use sender::Sender;
+use search::{Entry, Found};
 use sheet::Sheet;
-use std::alloc::{AllocError, Global};
 use std::fmt;
-use weighing::Reading;
 
 // How many octets are asked for where the check does not fit yet, and how often at most.
 const MORE: usize = 16;
 
 const ROUNDS: usize = 12;
 
-// The buffers that a decode is lent.
+// The two sides of one report: its sending; and the sheet with its tally, and the buffers that a decode is lent.
 #[derive(Drop)]
-struct Lent<V: Drop> {
+struct Sides<'a, R: Noted> {
+    sending: Sending<'a>,
+    noise: Noise,
+    sheet: Sheet<R>,
+    tally: Vec<Entry<R::Value>>,
     target: Vec<u8>,
     survivors: Vec<u16>,
-    paths: Vec<Option<V>>,
+    paths: Vec<Option<R::Value>>,
 }
 
-impl<V: Copy + Drop> Lent<V> {
-    fn new(heap: Global, n: usize) -> Result<Lent<V>, AllocError> {
-        let mut paths = Vec::new(heap);
-        for _ in 0..32 {
-            paths.push(None)?;
-        }
-        Ok(Lent {
-            target: vec![in heap; 0u8; n]?,
-            survivors: vec![in heap; 0u16; n.saturating_mul(8)]?,
-            paths,
-        })
-    }
-}
-
-fn zero_tally<R: Reading>(heap: Global, places: usize) -> Result<Vec<Entry<R::Value>>, AllocError> {
-    let mut tally = Vec::new(heap);
-    for _ in 0..places {
-        tally.push(Entry {
-            zero: R::zero(),
-            one: R::zero(),
-        })?;
-    }
-    Ok(tally)
-}
-
-// Takes what arrived from octet `start` on.
-fn take<R: Reading>(
-    rt: &HostRuntime,
-    sheet: &mut Sheet<R>,
-    tally: &mut [Entry<R::Value>],
-    start: usize,
-    heard: &Heard,
-) -> anyhow::Result<()> {
-    let count = heard.symbols.len();
-    println!(rt;
-        "  The channel carries {count} bits: it turns {} and mutes {}.",
-        heard.turned, heard.muted
-    )?;
-    match sheet.take(tally, start, heard.symbols.as_slice()) {
-        Ok(total) => println!(rt;
-            "  They are taken from octet {start} on: {total} symbols in all."
-        )?,
-        Err(refusal) => println!(rt; "  The take is refused with {}.", refusal.number())?,
-    }
-    Ok(())
-}
-
-// Decodes, and answers whether the check fits.
-fn decode<R: Reading>(
-    rt: &HostRuntime,
-    sheet: &Sheet<R>,
-    tally: &[Entry<R::Value>],
-    lent: &mut Lent<R::Value>,
-) -> anyhow::Result<bool>
+impl<'a, R: Noted> Sides<'a, R>
 where
     R::Value: fmt::Display,
 {
-    let decoded = sheet.decode(
-        tally,
-        lent.target.as_mut_slice(),
-        lent.survivors.as_mut_slice(),
-        lent.paths.as_mut_slice(),
-    );
-    let Ok(found) = decoded else {
-        println!(rt; "  The decode is refused.")?;
-        return Ok(false);
-    };
-    tell_message(
-        rt,
-        lent.target.as_slice(),
-        sheet.octets(),
-        found.weight,
-        found.check_fits,
-    )?;
-    Ok(found.check_fits)
-}
-
-// The message that was named, its weight, and whether its check fits.
-fn tell_message<V: fmt::Display + Drop>(
-    rt: &HostRuntime,
-    named: &[u8],
-    octets: usize,
-    weight: V,
-    fits: bool,
-) -> anyhow::Result<()> {
-    let verdict = if fits { "fits" } else { "does not fit" };
-    let own = octets.min(named.len());
-    let text = Text(&named[0..own]);
-    println!(rt;
-        "  The nearest message is \"{text}\": its weight is {weight}, and its check {verdict}."
-    )?;
-    Ok(())
-}
-
-// The two sides of one report: its sender, and the sheet with its tally.
-#[derive(Drop)]
-struct Sides<R: Reading> {
-    sender: Sender,
-    sheet: Sheet<R>,
-    tally: Vec<Entry<R::Value>>,
-    noise: Noise,
-}
-
-impl<R: Reading> Sides<R> {
-    fn open(heap: Global, report: &Report) -> anyhow::Result<Sides<R>> {
+    fn open(rt: &'a HostRuntime, report: &'a Report) -> anyhow::Result<Sides<'a, R>> {
+        let heap = rt.alloc();
         let size = report.size;
-        let mut tally = zero_tally::<R>(heap, 32 * size.block_octets())?;
-        let Ok(sheet) = Sheet::<R>::open(
+        let n = size.block_octets();
+        let empty = Entry {
+            zero: R::zero(),
+            one: R::zero(),
+        };
+        let mut tally = vec![in heap; empty; 32 * n]?;
+        let sheet = Sheet::<R>::open(
             size.octets(),
             size.check(),
             Order::order_r(),
             tally.as_mut_slice(),
-        ) else {
-            return Err(anyhow!("the tally is short"));
-        };
-        let Ok(sender) = Sender::new(size.octets(), size.check()) else {
-            return Err(anyhow!("no sender for this size"));
-        };
+        )?;
         Ok(Sides {
-            sender,
+            sending: Sending::begin(rt, report)?,
+            noise: Noise(7),
             sheet,
             tally,
-            noise: Noise(7),
+            target: vec![in heap; 0u8; n]?,
+            survivors: vec![in heap; 0u16; 8 * n]?,
+            paths: vec![in heap; None; 32]?,
         })
     }
 
     // Takes octets that were sent from octet `start` on, as they arrive.
-    fn arrive(
-        &mut self,
-        rt: &HostRuntime,
-        start: usize,
-        octets: &[u8],
-        notes: Notes,
-    ) -> anyhow::Result<()> {
-        let heard = self.noise.hear(rt.alloc(), octets, notes)?;
-        take::<R>(
-            rt,
-            &mut self.sheet,
-            self.tally.as_mut_slice(),
-            start,
-            &heard,
-        )
+    fn take(&mut self, start: usize, octets: &[u8]) -> anyhow::Result<()> {
+        let heard = self.noise.hear::<R>(self.sending.rt.alloc(), octets)?;
+        let count = heard.symbols.len();
+        println!(self.sending.rt;
+            "  The channel carries {count} bits: it turns {} and mutes {}.",
+            heard.turned, heard.muted
+        )?;
+        match self
+            .sheet
+            .take(self.tally.as_mut_slice(), start, heard.symbols.as_slice())
+        {
+            Ok(total) => println!(self.sending.rt;
+                "  They are taken from octet {start} on: {total} symbols in all."
+            )?,
+            Err(refusal) => println!(self.sending.rt;
+                "  The take is refused with {}.",
+                refusal.number()
+            )?,
+        }
+        Ok(())
     }
 
     // Asks for more octets and takes what arrives of them.
-    fn ask_more(&mut self, rt: &HostRuntime, report: &Report, notes: Notes) -> anyhow::Result<()> {
-        let count = MORE.min(report.buffer.len());
-        println!(rt; "  The check does not fit, so {count} more octets are asked for.")?;
-        let start = self.sender.standing();
-        let more = send_more(rt, report, &mut self.sender, count)?;
-        self.arrive(rt, start, more.as_slice(), notes)
+    fn ask_more(&mut self) -> anyhow::Result<()> {
+        let count = MORE.min(self.sending.report.buffer.len());
+        println!(self.sending.rt;
+            "  The check does not fit, so {count} more octets are asked for."
+        )?;
+        let start = self.sending.standing();
+        let more = self.sending.pass(count, Ending::Confirmed)?;
+        self.take(start, more.as_slice())
     }
 
-    fn wipe(&mut self, rt: &HostRuntime) -> anyhow::Result<()> {
+    // Decodes, and answers whether the check fits.
+    fn decode(&mut self) -> anyhow::Result<bool> {
+        match self.sheet.decode(
+            self.tally.as_slice(),
+            self.target.as_mut_slice(),
+            self.survivors.as_mut_slice(),
+            self.paths.as_mut_slice(),
+        ) {
+            Ok(found) => {
+                self.tell(&found)?;
+                Ok(found.check_fits)
+            }
+            Err(_) => {
+                println!(self.sending.rt; "  The decode is refused.")?;
+                Ok(false)
+            }
+        }
+    }
+
+    // The message that was named, its weight, and whether its check fits.
+    fn tell(&self, found: &Found<R::Value>) -> anyhow::Result<()> {
+        let named = self.target.as_slice();
+        let text = Text(&named[..self.sheet.octets().min(named.len())]);
+        let weight = found.weight;
+        let verdict = if found.check_fits {
+            "fits"
+        } else {
+            "does not fit"
+        };
+        println!(self.sending.rt;
+            "  The nearest message is \"{text}\": its weight is {weight}, and its check {verdict}."
+        )?;
+        Ok(())
+    }
+
+    // Decodes, and again after each further octets, until the check fits; answers whether it does.
+    fn decode_until_fit(&mut self) -> anyhow::Result<bool> {
+        for _ in 0..ROUNDS {
+            if self.decode()? {
+                return Ok(true);
+            }
+            self.ask_more()?;
+        }
+        self.decode()
+    }
+
+    fn wipe(&mut self) -> anyhow::Result<()> {
         match self.sheet.wipe(self.tally.as_mut_slice()) {
-            Ok(()) => println!(rt;
+            Ok(()) => println!(self.sending.rt;
                 "  The sheet is wiped, and counts {} symbols.",
                 self.sheet.count()
             )?,
-            Err(refusal) => println!(rt; "  The wipe is refused with {}.", refusal.number())?,
+            Err(refusal) => println!(self.sending.rt;
+                "  The wipe is refused with {}.",
+                refusal.number()
+            )?,
         }
         Ok(())
     }
 }
 
 // One report is sent, heard and decoded by a reading, until its check fits.
-pub(crate) fn hear_report<R: Reading>(
+pub(crate) fn hear_report<R: Noted>(
     rt: &HostRuntime,
     report: &Report,
-    notes: Notes,
     k: usize,
 ) -> anyhow::Result<()>
 where
     R::Value: fmt::Display,
 {
-    let heap = rt.alloc();
-    let mut sides = Sides::<R>::open(heap, report)?;
-    let mut lent = Lent::new(heap, report.size.block_octets())?;
-    let first = send_first(rt, report, &mut sides.sender, k)?;
-    sides.arrive(rt, 0, first.as_slice(), notes)?;
-    let mut fits = decode::<R>(rt, &sides.sheet, sides.tally.as_slice(), &mut lent)?;
-    for _ in 0..ROUNDS {
-        if fits {
-            break;
-        }
-        sides.ask_more(rt, report, notes)?;
-        fits = decode::<R>(rt, &sides.sheet, sides.tally.as_slice(), &mut lent)?;
-    }
-    if !fits {
+    let mut sides = Sides::<R>::open(rt, report)?;
+    let first = sides.sending.first(k)?;
+    sides.take(0, first.as_slice())?;
+    if !sides.decode_until_fit()? {
         println!(rt; "  The check still does not fit, and no more is asked for.")?;
     }
-    sides.wipe(rt)
+    sides.wipe()
 }

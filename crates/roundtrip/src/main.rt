@@ -3,10 +3,9 @@
 
 mod channel;
 mod hearing;
-mod hex;
 mod sending;
+mod text;
 
-use channel::Notes;
 use code::Order;
 use hearing::hear_report;
 use sending::Report;
@@ -29,21 +28,16 @@ fn run(rt: &HostRuntime, text: &str) -> anyhow::Result<()> {
     let report = Report::encode(rt.alloc(), text, CHECK, &Order::order_r())?;
     report.tell(rt)?;
     println!(rt; "The hard reading: each bit is heard as 0, 1 or missing.")?;
-    hear_report::<Hard>(rt, &report, Notes::Bits, RATE)?;
+    hear_report::<Hard>(rt, &report, RATE)?;
     println!(rt;
         "The soft reading: each bit is heard with a level, and contradicted levels add up."
     )?;
-    hear_report::<Soft>(rt, &report, Notes::Levels, RATE)?;
+    hear_report::<Soft>(rt, &report, RATE)?;
     println!(rt; "The worst reading: the same levels, and the loudest contradiction counts.")?;
-    hear_report::<Worst>(rt, &report, Notes::Levels, RATE)
+    hear_report::<Worst>(rt, &report, RATE)
 }
 
 fn main(rt: HostRuntime) -> anyhow::Result<()> {
-    let mut args = env::args(&rt)?;
-    let _ = args.next();
-    let result = match args.next() {
-        Some(text) => run(&rt, text.as_str()),
-        None => run(&rt, DEFAULT),
-    };
-    result
+    let text = env::args(&rt)?.nth(1);
+    run(&rt, text.as_deref().unwrap_or(DEFAULT))
 }

@@ -1,16 +1,15 @@
-// The sending side: a report is encoded, and its first payload is sent.
-use crate::hex::Hex;
-use anyhow::anyhow;
-use block::{Size, check_field, plan};
+// The sending side: a report is encoded, and its buffer is sent in passages.
+use block::{Size, plan};
 use code::{Order, encode_report};
 use sender::{Passage, Sender};
 use std::alloc::Global;
+use std::fmt;
 
 // A report, coded.
 #[derive(Drop)]
 pub(crate) struct Report {
     pub(crate) size: Size,
-    pub(crate) field: u32,
+    field: u32,
     pub(crate) buffer: Vec<u8>,
 }
 
@@ -22,21 +21,15 @@ impl Report {
         order: &Order,
     ) -> anyhow::Result<Report> {
         let octets = text.as_bytes();
-        let Ok(size) = Size::new(octets.len(), check) else {
-            return Err(anyhow!("a report has 1 to 512 octets"));
-        };
-        let Ok(field) = check_field(octets, check) else {
-            return Err(anyhow!("no check of this length"));
-        };
+        let size = Size::new(octets.len(), check)?;
+        let field = size.check_over(octets);
         let mut buffer = vec![in heap; 0u8; 4 * size.block_octets()]?;
-        match encode_report(octets, check, order, buffer.as_mut_slice()) {
-            Ok(()) => Ok(Report {
-                size,
-                field,
-                buffer,
-            }),
-            Err(_) => Err(anyhow!("the buffer is short")),
-        }
+        encode_report(octets, check, order, buffer.as_mut_slice())?;
+        Ok(Report {
+            size,
+            field,
+            buffer,
+        })
     }
 
     // Sizes, check and buffer in plain words.
@@ -45,85 +38,91 @@ impl Report {
         let check = self.size.check();
         let block = self.size.block_octets();
         let field = self.field;
-        let buffer = self.buffer.as_slice();
         println!(rt;
             "The report has {octets} octets; with a check of {check} bits and the tail its block has {block}."
         )?;
         println!(rt; "The check field is {field:012b}.")?;
-        let coded = buffer.len();
-        println!(rt;
-            "It is encoded to a buffer of {coded} octets: {}",
-            Hex(buffer)
-        )?;
+        let coded = self.buffer.len();
+        let buffer = hex::encode(rt.alloc(), self.buffer.as_slice())?;
+        println!(rt; "It is encoded to a buffer of {coded} octets: {buffer}")?;
         Ok(())
     }
 }
 
-// Sends the first payload at rate 8 / (8 + k): once given up, and then confirmed.
-pub(crate) fn send_first(
-    rt: &HostRuntime,
-    report: &Report,
-    sender: &mut Sender,
-    k: usize,
-) -> anyhow::Result<Vec<u8>> {
-    let Ok(count) = plan(report.size.octets(), report.size.check(), k) else {
-        return Err(anyhow!("no such rate"));
-    };
-    println!(rt;
-        "  At rate 8/{} the first payload has {count} octets.",
-        8 + k.min(24)
-    )?;
-    let lost = try_passage(rt, report, sender, count)?;
-    drop(lost);
-    send_more(rt, report, sender, count)
+// How a passage ends.
+#[derive(Clone, Copy)]
+pub(crate) enum Ending {
+    Confirmed,
+    GivenUp,
 }
 
-// Copies octets in a passage that is given up, and shows that the sender stands where it stood.
-fn try_passage(
-    rt: &HostRuntime,
-    report: &Report,
-    sender: &mut Sender,
-    count: usize,
-) -> anyhow::Result<Vec<u8>> {
-    let before = sender.standing();
-    let mut target = vec![in rt.alloc(); 0u8; count]?;
-    let mut passage = Passage::begin(sender.size(), &mut sender.cursor);
-    let copied = passage.copy(report.buffer.as_slice(), target.as_mut_slice(), count);
-    passage.give_up();
-    let after = sender.standing();
-    match copied {
-        Ok(()) => println!(rt;
-            "  A passage of {count} octets is copied and given up: the sender stood at octet {before} and stands at {after}."
-        )?,
-        Err(refusal) => println!(rt;
-            "  A passage of {count} octets is refused with {}.",
-            refusal.number()
-        )?,
+impl Ending {
+    fn end(self, passage: Passage<'_>) {
+        match self {
+            Ending::Confirmed => passage.confirm(),
+            Ending::GivenUp => passage.give_up(),
+        }
     }
-    Ok(target)
 }
 
-// Sends octets in a passage that is confirmed.
-pub(crate) fn send_more(
-    rt: &HostRuntime,
-    report: &Report,
-    sender: &mut Sender,
-    count: usize,
-) -> anyhow::Result<Vec<u8>> {
-    let before = sender.standing();
-    let mut target = vec![in rt.alloc(); 0u8; count]?;
-    let mut passage = Passage::begin(sender.size(), &mut sender.cursor);
-    let copied = passage.copy(report.buffer.as_slice(), target.as_mut_slice(), count);
-    passage.confirm();
-    let after = sender.standing();
-    match copied {
-        Ok(()) => println!(rt;
-            "  A passage of {count} octets is copied and confirmed: the sender stood at octet {before} and stands at {after}."
-        )?,
-        Err(refusal) => println!(rt;
-            "  A passage of {count} octets is refused with {}.",
-            refusal.number()
-        )?,
+impl fmt::Display for Ending {
+    fn fmt<W: fmt::Write>(&self, f: &mut fmt::Formatter<W>) -> fmt::Result {
+        f.write_str(match self {
+            Ending::Confirmed => "confirmed",
+            Ending::GivenUp => "given up",
+        })
     }
-    Ok(target)
+}
+
+// A report that is being sent.
+#[derive(Drop)]
+pub(crate) struct Sending<'a> {
+    pub(crate) rt: &'a HostRuntime,
+    pub(crate) report: &'a Report,
+    sender: Sender,
+}
+
+impl<'a> Sending<'a> {
+    pub(crate) fn begin(rt: &'a HostRuntime, report: &'a Report) -> anyhow::Result<Sending<'a>> {
+        let sender = Sender::new(report.size.octets(), report.size.check())?;
+        Ok(Sending { rt, report, sender })
+    }
+
+    // The octet that the next passage begins at.
+    pub(crate) fn standing(&self) -> usize {
+        self.sender.standing()
+    }
+
+    // Sends the first payload at rate 8 / (8 + k): once given up, and then confirmed.
+    pub(crate) fn first(&mut self, k: usize) -> anyhow::Result<Vec<u8>> {
+        let size = self.report.size;
+        let count = plan(size.octets(), size.check(), k)?;
+        println!(self.rt;
+            "  At rate 8/{} the first payload has {count} octets.",
+            8 + k
+        )?;
+        let _lost = self.pass(count, Ending::GivenUp)?;
+        self.pass(count, Ending::Confirmed)
+    }
+
+    // Copies octets in a passage that ends so, and shows where the sender stood and where it stands.
+    pub(crate) fn pass(&mut self, count: usize, ending: Ending) -> anyhow::Result<Vec<u8>> {
+        let rt = self.rt;
+        let before = self.standing();
+        let mut target = vec![in rt.alloc(); 0u8; count]?;
+        let mut passage = Passage::begin(self.sender.size(), &mut self.sender.cursor);
+        let copied = passage.copy(self.report.buffer.as_slice(), target.as_mut_slice(), count);
+        ending.end(passage);
+        let after = self.standing();
+        match copied {
+            Ok(()) => println!(rt;
+                "  A passage of {count} octets is copied and {ending}: the sender stood at octet {before} and stands at {after}."
+            )?,
+            Err(refusal) => println!(rt;
+                "  A passage of {count} octets is refused with {}.",
+                refusal.number()
+            )?,
+        }
+        Ok(target)
+    }
 }

@@ -1,7 +1,9 @@
 -- The search's invariant: it holds at the start, one step keeps it. Assumes nothing.
-use Rattle.std.proofs.Common.{◌≡◌, ℕ, zero, suc, ◌<◌, Bool, List, [], ◌∷◌, length, get_or, IfSome, Some, None, Option, sym, refl, ap, ◌∙◌, subst, arith, MatchOption}
+use Rattle.std.proofs.Common.{◌≡◌, ℕ, zero, suc, ◌<◌, Bool, List, [], ◌∷◌, length, get_or, IfSome, Some, None, Option, sym, refl, ap, ◌∙◌, subst, arith, set, replicate, ◌+◌, add-one, get_or-set_other, get_or-set_same, MatchOption}
 use Rattle.std.specs.Option.{option_map}
+use Rattle.std.proofs.lemmas.List.{get_or-replicate}
 use Rattle.block.specs.Bits.{bit}
+use Rattle.code.specs.declared.Outputs.{Outputs}
 use Rattle.code.specs.Register.{Cells, cells_of, next, outputs, state_of}
 use Rattle.code.proofs.Steps.{cells_state}
 use Rattle.weighing.specs.Scales.{Scale}
@@ -12,22 +14,21 @@ use Rattle.search.proofs.Trellis.{came_from, leads, origin_length, origin_same, 
 
 module _ {V : Type 0} (s : Scale V) (order : List ℕ) (n : ℕ) (sums : Sums s) where
   -- before the first step only state 0 is reached, with weight zero
-  pub best_start : (survivors : List ℕ) (paths : List (Option V)) (z : V) → s.mean z ≡ s.zero → get_or paths 0 None ≡ Some z → ((k : ℕ) → k < 16 → (k ≡ 0 → ⊥) → get_or paths k None ≡ None) → Best s order n sums survivors paths 0
-  best_start survivors paths z zero_is here others = record {
-    every = λ us e. start_every us e;
-    held = λ k h. start_held k h;
-  }
-    where
-      first : meant s paths 0 ≡ Some s.zero
-      first = ap (option_map s.mean) here ∙ ap Some zero_is
+  module _ (survivors : List ℕ) (z : V) (zero_is : s.mean z ≡ s.zero) where
+    abbrev begun : List (Option V)
+    begun = set (replicate 16 None) 0 (Some z)
 
-      start_every : (us : List Bool) → length us ≡ 0 → Lighter s (meant s paths (state_of (ends us))) (Some (path_weight s order n sums us))
-      start_every [] e = subst (λ x. Lighter s x (Some s.zero)) (sym first) (reflexive s s.zero)
-      start_every (u ∷ us) e = absurd (omega arith)
+    start_held : (k : ℕ) → k < 16 → IfSome (meant s begun k) (λ w. (state_of (ends (origin survivors 0 k)) ≡ k) × (w ≡ path_weight s order n sums (origin survivors 0 k)))
+    start_held zero h = (refl, zero_is)
+    start_held (suc k) h =
+        subst (λ x. IfSome (option_map s.mean x) (λ w. (0 ≡ suc k) × (w ≡ s.zero))) (sym (get_or-replicate 15 k None None (omega arith))) tt
 
-      start_held : (k : ℕ) → k < 16 → IfSome (meant s paths k) (λ w. (state_of (ends (origin survivors 0 k)) ≡ k) × (w ≡ path_weight s order n sums (origin survivors 0 k)))
-      start_held zero h = subst (λ x. IfSome x (λ w. (◌≡◌ {A = ℕ} 0 0) × (w ≡ s.zero))) (sym first) (refl, refl)
-      start_held (suc k) h = subst (λ x. IfSome x (λ w. (0 ≡ suc k) × (w ≡ s.zero))) (sym (ap (option_map s.mean) (others (suc k) h (λ e. omega arith)))) tt
+    start_every : (k : ℕ) (us : List Bool) → length us ≡ 0 → state_of (ends us) ≡ k → Lighter s (meant s begun k) (Some (path_weight s order n sums us))
+    start_every k [] e to = subst (λ j. Lighter s (meant s begun j) (Some s.zero)) to (subst (λ w. s.atmost w s.zero) (sym zero_is) (reflexive s s.zero))
+    start_every k (u ∷ us) e to = absurd (omega arith)
+
+    pub best_start : Best s order n sums survivors begun 0
+    best_start k h = record { every = start_every k; held = start_held k h }
 
   module _ (survivors kept : List ℕ) (paths new : List (Option V)) (t word : ℕ)
       (best : Best s order n sums survivors paths t)
@@ -72,7 +73,7 @@ module _ {V : Type 0} (s : Scale V) (order : List ℕ) (n : ℕ) (sums : Sums s)
         lighter_trans s (meant s new k) (behind s (meant s paths (state_of m)) c) (Some (path_weight s order n sums (u ∷ us)))
         (subst (Lighter s (meant s new k)) route ((settled k (state_small (next m u))).least odd))
         (subst (λ l. Lighter s (behind s (meant s paths (state_of m)) c) (Some (s.plus (path_weight s order n sums us) (step_weight s order n sums l (outputs m u))))) (sym long)
-        (lighter_behind s (meant s paths (state_of m)) (Some (path_weight s order n sums us)) c (best.every us long)))
+        (lighter_behind s (meant s paths (state_of m)) (Some (path_weight s order n sums us)) c ((best (state_of m) (state_small m)).every us long refl)))
 
     step_held : (k : ℕ) → k < 16 → IfSome (meant s new k) (λ w. (state_of (ends (origin kept (suc t) k)) ≡ k) × (w ≡ path_weight s order n sums (origin kept (suc t) k)))
     step_held k h =
@@ -82,7 +83,22 @@ module _ {V : Type 0} (s : Scale V) (order : List ℕ) (n : ℕ) (sums : Sums s)
         ap (λ w. input (predecessor (bit k w) k) k ∷ origin kept t (predecessor (bit k w) k)) noted ∙ ap (λ rest. input p k ∷ rest) (origin_same kept survivors t p same) in
         subst (λ us. IfSome (meant s new k) (λ w. (state_of (ends us) ≡ k) × (w ≡ path_weight s order n sums us))) (sym given)
         (subst (λ x. IfSome x (λ w. (state_of (ends (input p k ∷ before)) ≡ k) × (w ≡ path_weight s order n sums (input p k ∷ before)))) (sym (is_through k h))
-        (extend p k (meant s paths p) (bit k word) refl h before (origin_length survivors t p) (best.held p (predecessor_small (bit k word) k))))
+        (extend p k (meant s paths p) (bit k word) refl h before (origin_length survivors t p) (best p (predecessor_small (bit k word) k)).held))
 
-    pub best_more : Best s order n sums kept new (suc t)
-    best_more = record { every = step_every; held = step_held }
+    stepped : Best s order n sums kept new (suc t)
+    stepped k h = record {
+      every = λ us e to. subst (λ j. Lighter s (meant s new j) (Some (path_weight s order n sums us))) to (step_every us e);
+      held = step_held k h;
+    }
+
+  -- a step that settles every state by the weights of its outputs, and notes its word
+  pub best_more : (survivors : List ℕ) (paths new : List (Option V)) (t word : ℕ) (cost : Outputs → s.Meaning)
+      → t < length survivors → Best s order n sums survivors paths t
+      → ((v : Outputs) → cost v ≡ step_weight s order n sums t v)
+      → ((k : ℕ) → k < 16 → Settled s cost paths (meant s new k) (bit k word) k)
+      → Best s order n sums (set survivors t word) new (t + 1)
+  best_more survivors paths new t word cost within best costs settled =
+      subst (Best s order n sums (set survivors t word) new) (sym (add-one t))
+      (stepped survivors (set survivors t word) paths new t word best
+      (λ k h. get_or-set_other survivors t k word 0 (λ e. omega arith)) (get_or-set_same survivors t word 0 within)
+      (λ k h. subst (λ c. Settled s c paths (meant s new k) (bit k word) k) (λ i v. costs v i) (settled k h)))

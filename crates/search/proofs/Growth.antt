@@ -5,13 +5,12 @@ use Rattle.code.specs.Columns.{index_of, is_order}
 use Rattle.code.specs.Places.{output, place_of}
 use Rattle.code.specs.Register.{cleared, coded, with_tail}
 use Rattle.code.specs.declared.Outputs.{Outputs}
-use Rattle.code.proofs.Ordered.{order_index}
 use Rattle.code.proofs.Runs.{trace_length}
 use Rattle.weighing.specs.Scales.{Scale}
 use Rattle.search.specs.Weights.{Sums, added, part, weight}
 use Rattle.search.proofs.Bridge.{with_tail_length}
 use Rattle.search.proofs.Orders.{reflexive}
-use Rattle.search.proofs.Placing.{column_within}
+use Rattle.search.proofs.Placing.{column_ends}
 
 -- each output of a step stands within the buffer
 pub place_small : (order : List ℕ) → is_order order ≡ true → (n o t : ℕ) → 1 ≤ o → o ≤ 4 → t < 8 * n → place_of order n o t < 32 * n
@@ -21,8 +20,7 @@ place_small order is n (suc zero) t low high h = omega arith
 place_small order is n (suc (suc o)) t low high h =
     let a = 8 * (suc (suc o) - 2) + t % 8 in
     let later : eqb (suc (suc o)) 1 ≡ false = ne_eqb _ 1 (λ e. omega arith) in
-    let index = (order_index order is a (omega arith)).0 in
-    let within = column_within n (index_of a order) index in
+    let within = column_ends order is n a (omega arith) in
     subst (λ b. cond b t (8 * n + n * index_of a order + t / 8) < 32 * n) (sym later) (omega arith)
 
 module _ {V : Type 0} (s : Scale V) (order : List ℕ) (is : is_order order ≡ true) (n : ℕ) (few more : Sums s)

@@ -3,7 +3,6 @@ pub mod Orders
 pub mod Bests
 pub mod Bridge
 pub mod Placing
-pub mod Bools
 pub mod Words
 pub mod Settling
 pub mod Finish

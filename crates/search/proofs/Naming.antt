@@ -20,17 +20,19 @@ read_back all n bits rest after within long is =
     fill_by_all (bit_at after) (take bits all) bits false (length-take-le bits all long)
     (λ k h. get_or-take bits all k false h ∙ sym (ap (λ xs. bit_at xs k) is ∙ bit_at_filled all n rest k (omega arith)))
 
-pub names_since : {V : Type 0} (s : Scale V) (octets check : ℕ) (order : List ℕ) (sums : Sums s) (before after survivors : List ℕ) (found : Found V) (n : ℕ)
-    → n ≡ block_octets octets check → 8 * octets + check + 4 ≡ 8 * n
-    → after ≡ filled (reverse (origin survivors (8 * n) 0)) n ++ drop n before
+pub names_since : {V : Type 0} (s : Scale V) (octets check : ℕ) (order : List ℕ) (sums : Sums s) (before front survivors : List ℕ) (found : Found V) (n : ℕ)
+    → n ≡ block_octets octets check → 8 * octets + check + 4 ≡ 8 * n → length survivors ≡ 8 * n
+    → front ≡ filled (reverse (origin survivors (length survivors) 0)) n
     → Traced s order n sums survivors (8 * octets + check) (s.mean found.weight)
-    → Decides found.check_fits (CheckFits octets check (bits_of after (8 * octets + check)))
-    → Names s octets check order sums before after found
-names_since s octets check order sums before after survivors found n size whole written traced verdict =
+    → Decides found.check_fits (CheckFits octets check (bits_of (front ++ drop n before) (8 * octets + check)))
+    → Names s octets check order sums before (front ++ drop n before) found
+names_since s octets check order sums before front survivors found n size whole steps written traced verdict =
     let bits = 8 * octets + check in
+    let after = front ++ drop n before in
     let all = reverse (origin survivors (bits + 4) 0) in
     let long : length all ≡ bits + 4 = length-reverse (origin survivors (bits + 4) 0) ∙ origin_length survivors (bits + 4) 0 in
-    let is : after ≡ filled all n ++ drop n before = written ∙ ap (λ t. filled (reverse (origin survivors t 0)) n ++ drop n before) (sym whole) in
+    let is : after ≡ filled all n ++ drop n before =
+    ap (λ xs. xs ++ drop n before) (written ∙ ap (λ t. filled (reverse (origin survivors t 0)) n) (steps ∙ sym whole)) in
     let message : take bits all ≡ bits_of after bits = read_back all n bits (drop n before) after (omega arith) (omega arith) is in
     record {
       written =

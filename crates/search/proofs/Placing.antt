@@ -1,16 +1,18 @@
 -- Where the outputs of a step stand. Assumes nothing.
-use Rattle.std.proofs.Common.{◌≡◌, ℕ, ◌+◌, ◌-◌, ◌*◌, ◌/◌, ◌%◌, ◌<◌, ◌≤◌, cond, List, get_or, sym, ap, ◌∙◌, mul-le-mul_left, mul-add, arith}
+use Rattle.std.proofs.Common.{◌≡◌, true, ℕ, ◌+◌, ◌-◌, ◌*◌, ◌/◌, ◌%◌, ◌<◌, ◌≤◌, cond, List, get_or, sym, ap, ◌∙◌, mul-le-mul_left, mul-add, arith}
 use lib.Bits.{bit_and}
 use Rattle.std.proofs.lemmas.Nat.{and_mask}
 use Rattle.std.proofs.lemmas.Bool.{ne_eqb}
-use Rattle.code.specs.Columns.{index_of}
+use Rattle.code.specs.Columns.{index_of, is_order}
+use Rattle.code.proofs.Ordered.{order_index}
 use Rattle.code.specs.Places.{place_of}
 use Rattle.search.specs.Paths.{ColumnPlaces}
 
--- a column that begins 8 * n + n * i places on, for i below 24, ends within the buffer
-pub column_within : (n i : ℕ) → i < 24 → 8 * n + n * i + n ≤ 32 * n
-column_within n i h =
-    let most : n * (i + 1) ≤ n * 24 = mul-le-mul_left n (omega arith) in
+-- each column ends within the buffer
+pub column_ends : (order : List ℕ) → is_order order ≡ true → (n a : ℕ) → a < 24 → 8 * n + n * index_of a order + n ≤ 32 * n
+column_ends order is n a h =
+    let i = index_of a order in
+    let most : n * (i + 1) ≤ n * 24 = mul-le-mul_left n (omega (arith, (order_index order is a h).0)) in
     let split : n * (i + 1) ≡ n * i + n * 1 = mul-add n i 1 in
     omega arith
 

@@ -1,34 +1,78 @@
--- One step back along the survivors, and what is written of it. Assumes nothing.
-use Rattle.std.proofs.Common.{◌≡◌, ℕ, suc, ◌+◌, ◌<◌, ◌≤◌, Bool, false, List, [], ◌∷◌, ◌++◌, map, reverse, length, get_or, take, drop, set, sym, ap, ◌∙◌, inl, inr, add-one, arith}
+-- The way back along the survivors, step by step and octet by octet. Assumes nothing.
+use Rattle.std.proofs.Common.{◌≡◌, ℕ, zero, suc, ◌+◌, ◌*◌, ◌<◌, ◌≤◌, Bool, false, List, [], ◌∷◌, ◌++◌, reverse, length, get_or, take, drop, set, sym, ap, ◌∙◌, add-one, add-suc, add-zero, add_comm, append_assoc, arith}
 use mathlib.Core.List.{reverse-cons}
-use Rattle.std.specs.List.{range_with_len}
-use Rattle.std.proofs.lemmas.List.FromFn.{fill_by_all}
-use Rattle.std.proofs.lemmas.List.{get_or-set_other, get_or-set_same, get_or-take, length-take-le, same_from_push, take-append-drop, take_more}
-use Rattle.std.proofs.lemmas.Bool.{cases_eq}
+use Rattle.std.proofs.Math.Nat.{mul-suc, mul-zero}
+use Rattle.std.proofs.Math.Seq.{drop-cons}
+use Rattle.std.specs.Simd.{first_chunks}
+use Rattle.std.proofs.lemmas.List.{drop-drop, drop-set, get_or-append-add, get_or-take, length-reverse, reverse-append, take-take, take_at}
 use Rattle.block.specs.Bits.{bit}
-use Rattle.search.specs.Paths.{input, origin, predecessor}
+use Rattle.search.specs.Paths.{input, origin, predecessor, start}
+use Rattle.search.proofs.Trellis.{origin_length}
 
-pub back_more : (survivors : List ℕ) (bits : List Bool) (above t s p : ℕ) (u : Bool) → above ≡ suc t → above ≤ length bits
-    → p ≡ predecessor (bit s (get_or survivors t 0)) s → u ≡ input p s → reverse (origin survivors above s) ≡ take above bits
-    → (reverse (origin survivors t p) ≡ take t bits) × (u ≡ get_or bits t false)
-back_more survivors bits above t s p u up within from is traced =
+-- a value that is written from the back on makes one more right
+pub right_more : {A : Type 0} (xs ys : List A) (above t : ℕ) (y d : A) → above ≡ t + 1 → t < length xs → t < length ys
+    → drop above xs ≡ drop above ys → y ≡ get_or ys t d → drop t (set xs t y) ≡ drop t ys
+right_more xs ys above t y d up within known right here =
+    drop-set xs t y within ∙ (λ i. here i ∷ (ap (λ n. drop n xs) (sym up) ∙ right ∙ ap (λ n. drop n ys) (up ∙ add-one t)) i) ∙ sym (drop-cons ys t d known)
+
+-- one step back: its bit comes in front of those that are written
+pub step_more : (survivors : List ℕ) (bits : List Bool) (above t s p : ℕ) (u : Bool) → above ≡ t + 1 → t < length bits
+    → p ≡ predecessor (bit s (get_or survivors t 0)) s → u ≡ input p s
+    → reverse (origin survivors t p) ++ drop t (set bits t u) ≡ reverse (origin survivors above s) ++ drop above bits
+step_more survivors bits above t s p u up within from is =
     let q = predecessor (bit s (get_or survivors t 0)) s in
-    let longer : take above bits ≡ take t bits ++ get_or bits t false ∷ [] = ap (λ n. take n bits) (up ∙ sym (add-one t)) ∙ take_more bits t false (omega arith) in
-    let split : reverse (origin survivors above s) ≡ reverse (origin survivors t q) ++ input q s ∷ [] = ap (λ n. reverse (origin survivors n s)) up ∙ reverse-cons (input q s) (origin survivors t q) in
-    let parts = same_from_push (reverse (origin survivors t q)) (take t bits) (input q s) (get_or bits t false) (sym split ∙ traced ∙ longer) in
-    (ap (λ x. reverse (origin survivors t x)) from ∙ parts.0, is ∙ ap (λ x. input x s) from ∙ parts.1)
+    let back : ℕ → List Bool = λ x. reverse (origin survivors t x) in
+    ap (λ xs. back p ++ xs) (drop-set bits t u within) ∙ sym (append_assoc (back p) (u ∷ []) (drop (t + 1) bits))
+    ∙ (λ i. (back (from i) ++ (is ∙ ap (λ x. input x s) from) i ∷ []) ++ drop (t + 1) bits)
+    ∙ ap (λ xs. xs ++ drop (t + 1) bits) (sym (reverse-cons (input q s) (origin survivors t q)) ∙ ap (λ n. reverse (origin survivors n s)) (sym (add-one t)))
+    ∙ ap (λ n. reverse (origin survivors n s) ++ drop n bits) (sym up)
 
--- a value written at k, where those from the place above on are right already
-pub right_more : {A : Type 0} (xs : List A) (f : ℕ → A) (n above at : ℕ) (y d : A) → above ≡ at + 1 → at < length xs
-    → ((k : ℕ) → above ≤ k → k < n → get_or xs k d ≡ f k) → y ≡ f at → (k : ℕ) → at ≤ k → k < n → get_or (set xs at y) k d ≡ f k
-right_more xs f n above at y d up within others here k low high =
-    elim (cases_eq k at) [
-      | inl e ↦ ap (λ j. get_or (set xs at y) j d) e ∙ get_or-set_same xs at y d within ∙ here ∙ sym (ap f e)
-      | inr other ↦ get_or-set_other xs at k y d other ∙ others k (omega arith) high
-    ]
+pub start_more : (survivors : List ℕ) (above t s p : ℕ) → above ≡ t + 1 → p ≡ predecessor (bit s (get_or survivors t 0)) s → start survivors t p ≡ start survivors above s
+start_more survivors above t s p up from = ap (start survivors t) from ∙ ap (λ n. start survivors n s) (sym (up ∙ add-one t))
 
--- a list by its first n elements and the rest
-pub front_is : (xs before : List ℕ) (f : ℕ → ℕ) (n : ℕ) → n ≤ length xs → ((k : ℕ) → k < n → get_or xs k 0 ≡ f k) → drop n xs ≡ drop n before → xs ≡ map f (range_with_len 0 n) ++ drop n before
-front_is xs before f n within right rest =
-    sym (take-append-drop n xs)
-    ∙ (λ i. fill_by_all f (take n xs) n 0 (length-take-le n xs within) (λ k h. get_or-take n xs k 0 h ∙ right k h) i ++ rest i)
+-- a path by its last k steps and those before
+split : (survivors words : List ℕ) (m k s : ℕ) → ((i : ℕ) → i < k → get_or words i 0 ≡ get_or survivors (m + i) 0)
+    → origin survivors (m + k) s ≡ origin words k s ++ origin survivors m (start words k s)
+split survivors words m zero s same = ap (λ n. origin survivors n s) (add-zero m)
+split survivors words m (suc k) s same =
+    let p : ℕ → ℕ = λ w. predecessor (bit s w) s in
+    ap (λ n. origin survivors n s) (add-suc m k)
+    ∙ ap (λ w. input (p w) s ∷ origin survivors (m + k) (p w)) (sym (same k (omega arith)))
+    ∙ ap (λ us. input (p (get_or words k 0)) s ∷ us) (split survivors words m k (p (get_or words k 0)) (λ i h. same i (omega arith)))
+
+-- the steps from m on that have words of their own: where the path gives the first bits, so do they and the path up to them
+module _ (survivors words : List ℕ) (all : List Bool) (m s : ℕ) (within : m + length words ≤ length all)
+    (same : (i : ℕ) → i < length words → get_or words i 0 ≡ get_or survivors (m + i) 0)
+    (traced : reverse (origin survivors (m + length words) s) ≡ take (m + length words) all) where
+  abbrev from : ℕ
+  from = start words (length words) s
+
+  abbrev early : List Bool
+  early = reverse (origin survivors m from)
+
+  abbrev late : List Bool
+  late = reverse (origin words (length words) s)
+
+  joined : early ++ late ≡ take (m + length words) all
+  joined =
+      sym (reverse-append (origin words (length words) s) (origin survivors m from))
+      ∙ ap reverse (sym (split survivors words m (length words) s same)) ∙ traced
+
+  early_long : length early ≡ m
+  early_long = length-reverse (origin survivors m from) ∙ origin_length survivors m from
+
+  pub before_words : early ≡ take m all
+  before_words = sym (take_at early late m early_long) ∙ ap (take m) joined ∙ take-take m (m + length words) all (omega arith)
+
+  pub bits_of_words : (i : ℕ) → i < length words → get_or late i false ≡ get_or all (m + i) false
+  bits_of_words i h =
+      sym (get_or-append-add early late i false)
+      ∙ (λ j. get_or (joined j) (early_long j + i) false)
+      ∙ get_or-take (m + length words) all (m + i) false (omega arith)
+
+-- the chunk of index b
+pub chunk_at : {A : Type 0} (n k b : ℕ) (xs : List A) (d : List A) → b < k → get_or (first_chunks n k xs) b d ≡ take n (drop (n * b) xs)
+chunk_at n zero b xs d h = absurd (omega arith)
+chunk_at n (suc k) zero xs d h = ap (λ m. take n (drop m xs)) (sym (mul-zero n))
+chunk_at n (suc k) (suc b) xs d h =
+    chunk_at n k b (drop n xs) d (omega arith) ∙ ap (take n) (drop-drop (n * b) n xs) ∙ ap (λ m. take n (drop m xs)) (add_comm n (n * b) ∙ sym (mul-suc n b))

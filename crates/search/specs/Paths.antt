@@ -1,6 +1,6 @@
 -- Paths through the trellis, as the search goes: nothing here is part of what the search promises.
 -- A path is a row of bits with the latest first, so that one bit more is `∷`. Assumes nothing.
-use Rattle.std.specs.Prelude.{◌≡◌, ℕ, zero, suc, ◌+◌, ◌*◌, ◌%◌, ◌<◌, ◌≤◌, Bool, cond, List, [], ◌∷◌, reverse, length, take, Some, None, Option, MatchOption, ◌==◌, slice_index, slice_index_or}
+use Rattle.std.specs.Prelude.{◌≡◌, ℕ, zero, suc, ◌+◌, ◌*◌, ◌%◌, ◌<◌, ◌≤◌, Bool, List, [], ◌∷◌, reverse, length, take, Some, None, Option, MatchOption, slice_index, slice_index_or}
 use Rattle.std.specs.Option.{option_map}
 use Rattle.block.specs.Bits.{bit, value}
 use Rattle.code.specs.Columns.{index_of}
@@ -29,6 +29,11 @@ origin survivors zero s = []
 origin survivors (suc t) s =
     input (predecessor (bit s (slice_index survivors t)) s) s ∷ origin survivors t (predecessor (bit s (slice_index survivors t)) s)
 
+-- and the state in which that path starts
+abbrev pub start : List ℕ → ℕ → ℕ → ℕ
+start survivors zero s = s
+start survivors (suc t) s = start survivors t (predecessor (bit s (slice_index survivors t)) s)
+
 -- where each column begins, behind the 8 * N places of output 1
 abbrev pub ColumnPlaces : List ℕ → ℕ → List ℕ → Type 0
 ColumnPlaces order n places = (a : ℕ) → a < 24 → slice_index places a ≡ 8 * n + n * index_of a order
@@ -42,10 +47,6 @@ abbrev pub entries_cost : {V : Type 0} (s : Scale V) → StepEntries V → Outpu
 entries_cost s e v =
     s.plus (s.plus (s.plus (s.mean (side v.v1 e.v1)) (s.mean (side v.v2 e.v2))) (s.mean (side v.v3 e.v3)))
     (s.mean (side v.v4 e.v4))
-
--- which of two halves the path weights stand in after t steps
-abbrev pub half : {A : Type 0} → ℕ → A → A → A
-half t even odd = cond (t % 2 == 0) even odd
 
 module _ {V : Type 0} (s : Scale V) where
   -- a path weight that is absent is heavier than every other
@@ -82,11 +83,15 @@ module _ {V : Type 0} (s : Scale V) where
     path_weight [] = s.zero
     path_weight (u ∷ us) = s.plus (path_weight us) (step_weight (length us) (outputs (ends us) u))
 
-    -- After t steps: no path to a state weighs less than its path weight, and the survivors give one that weighs just that.
-    pub record Best (survivors : List ℕ) (paths : List (Option V)) (t : ℕ) : Type 0 where
-      pub every : (us : List Bool) → length us ≡ t → Lighter (meant paths (state_of (ends us))) (Some (path_weight us))
-      pub held : (k : ℕ) → k < 16 → MatchOption (meant paths k) (Unit {0})
-          (λ w. (state_of (ends (origin survivors t k)) ≡ k) × (w ≡ path_weight (origin survivors t k)))
+    -- Of the paths of t steps to state k none weighs less than w, and the survivors give one that weighs just that; there
+    -- is no such path where w is absent.
+    pub record Lightest (survivors : List ℕ) (t k : ℕ) (w : Option s.Meaning) : Type 0 where
+      pub every : (us : List Bool) → length us ≡ t → state_of (ends us) ≡ k → Lighter w (Some (path_weight us))
+      pub held : MatchOption w (Unit {0}) (λ v. (state_of (ends (origin survivors t k)) ≡ k) × (v ≡ path_weight (origin survivors t k)))
+
+    -- After t steps each path weight is the lightest to its state.
+    abbrev pub Best : List ℕ → List (Option V) → ℕ → Type 0
+    Best survivors paths t = (k : ℕ) → k < 16 → Lightest survivors t k (meant paths k)
 
     -- The block that the survivors give, from state 0 back: a message with its tail, of weight w, and no message of that
     -- many bits weighs less.

@@ -1,54 +1,54 @@
 // The way back along the survivors, which gives the message.
-ghost use Rattle.std.specs.Prelude.{◌≡◌, ℕ, ◌+◌, ◌*◌, ◌<◌, ◌≤◌, Bool, false, List, ◌++◌, reverse, length, take, drop, slice_index, slice_index_or};
+ghost use Rattle.std.specs.Prelude.{◌≡◌, ◌*◌, false, reverse, length, slice_index_or};
 ghost use Rattle.block.specs.Bits.{bit as bit-no, filled, octet_of};
-ghost use Rattle.search.specs.Paths.{input, origin, predecessor as pred};
+ghost use Rattle.search.specs.Paths.{input, origin, predecessor, start};
 
-use crate::forward::{input_to, predecessor};
-use crate::{OctetBack, StepBack};
+use crate::StepsBack;
+use crate::state::State;
 use block::{bit_of, octet};
 
-// The step `t` that led to a state.
-fn step_back(survivors: &[u16], t: usize, state: u8) -> StepBack
-    requires { (t < length survivors.now) × (state < 16) }
-    ensures state { result.state ≡ pred (bit-no state (slice_index survivors.now t)) state }
-    ensures bit { result.bit ≡ input result.state state }
-    ensures small { result.state < 16 }
+// The step that led to a state, by its word of survivors.
+fn step_back(word: u16, state: State) -> StepsBack<bool>
+    ensures state { result.state.number ≡ predecessor (bit-no state.number word) state.number }
+    ensures read { result.read ≡ input result.state.number state.number }
 {
-    let from = predecessor(bit_of(survivors[t] as u32, state as usize), state);
-    StepBack {
-        bit: input_to(from, state),
+    let from = state.predecessor(bit_of(word as u32, state.number as usize));
+    StepsBack {
+        read: state.input_from(from),
         state: from,
     }
 }
 
-// The eight steps that end octet `b` at a state.
-fn octet_back(survivors: &[u16], b: usize, state: u8) -> OctetBack
-    requires { (8 * b + 8 ≤ length survivors.now) × ((state < 16) × (b < 516)) }
-    ensures small { result.state < 16 }
-    ensures traced { (bits : List Bool) → 8 * b + 8 ≤ length bits → reverse (origin survivors.now (8 * b + 8) state) ≡ take (8 * b + 8) bits → (result.octet ≡ octet_of (λ i. slice_index_or bits (8 * b + i) false)) × (reverse (origin survivors.now (8 * b) result.state) ≡ take (8 * b) bits) }
+// The eight steps that led to a state, by their words of survivors.
+fn octet_back(words: &[u16; 8], state: State) -> StepsBack<u8>
+    ensures read { result.read ≡ octet_of (λ i. slice_index_or (reverse (origin words.now (length words.now) state.number)) i false) }
+    ensures state { result.state.number ≡ start words.now (length words.now) state.number }
 {
     let mut bits = [false; 8];
     let mut state = state;
+    // by index: after a loop over a reversed zip no proof knows what was written through it
     for i in (0..8).rev() {
-        let back = step_back(survivors, 8 * b + i, state);
-        bits[i] = back.bit;
+        let back = step_back(words[i], state);
+        bits[i] = back.read;
         state = back.state;
     }
-    OctetBack {
-        octet: octet(bits),
+    StepsBack {
+        read: octet(bits),
         state,
     }
 }
 
-// Writes the bits of the path that ends in state 0 as `n` octets.
-pub(crate) fn write_path(survivors: &[u16], n: usize, target: &mut [u8])
-    requires { (8 * n ≤ length survivors.now) × ((n ≤ length target.old) × (n ≤ 516)) }
-    ensures { target.new ≡ filled (reverse (origin survivors.now (8 * n) 0)) n ++ drop n target.old }
+// Writes the bits of the path that ends in state 0.
+pub(crate) fn write_path(survivors: &[u16], target: &mut [u8])
+    requires { length survivors.now ≡ 8 * length target.old }
+    ensures { target.new ≡ filled (reverse (origin survivors.now (length survivors.now) 0)) (length target.old) }
 {
-    let mut state = 0;
-    for b in (0..n).rev() {
-        let back = octet_back(survivors, b, state);
-        target[b] = back.octet;
+    let (octets, _) = survivors.as_chunks();
+    let mut state = State::zero();
+    // by index, for the same reason
+    for b in (0..target.len()).rev() {
+        let back = octet_back(&octets[b], state);
+        target[b] = back.read;
         state = back.state;
     }
 }

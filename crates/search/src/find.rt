@@ -1,12 +1,11 @@
 // The search as a whole, over buffers that the caller lends.
-ghost use Rattle.std.specs.Prelude.{◌≡◌, ℕ, ◌+◌, ◌*◌, ◌≤◌, length, drop};
+ghost use Rattle.std.specs.Prelude.{◌≡◌, ℕ, ◌+◌, ◌*◌, ◌≤◌, length};
 ghost use Rattle.search.specs.Found.{FindDoes, find_number};
 ghost use Rattle.search.specs.Weights.{entry_sums};
 ghost use Rattle.search.specs.Paths.{Traced};
 
 use crate::back::write_path;
-use crate::costs::column_places;
-use crate::forward::forward;
+use crate::costs::Block;
 use crate::{Entry, FindRefusal, Found};
 use block::Size;
 use code::Order;
@@ -16,51 +15,26 @@ impl FindRefusal {
     pub fn number(self) -> u8
         ensures { result ≡ find_number self }
     {
-        6
+        self as u8
     }
 }
 
-// Runs through all steps of a block of `n` octets, and answers the weight of the lightest path that ends in state 0.
-fn run_halves<W: Weighing>(
-    order: &Order,
-    n: usize,
-    tally: &[Entry<W::Value>],
-    survivors: &mut [u16],
-    paths: &mut [Option<W::Value>],
-) -> W::Value
-    requires { (n ≤ 516) × ((1 ≤ n) × ((32 * n ≤ length tally.now) × ((8 * n ≤ length survivors.old) × (32 ≤ length paths.old)))) }
-    ensures traced { (bits : ℕ) → bits + 4 ≡ 8 * n → Traced W.scale order.now.columns n (entry_sums W.scale tally.now) survivors.new bits (W.scale.mean result) }
-    ensures later { drop (8 * n) survivors.new ≡ drop (8 * n) survivors.old }
-{
-    let places = column_places(order, n);
-    let (even, odd) = paths.split_at_mut(16);
-    forward::<W>(tally, n, &places, 8 * n, survivors, even, odd);
-    let ended = even[0];
-    match ended {
-        Some(weight) => weight,
+impl<W: Weighing> Block<'_, W> {
+    // Runs through all steps, and answers the weight of the lightest path that ends in state 0.
+    #[tactic(auto, using(crate::proofs::Finish::reached))]
+    fn run(&self, survivors: &mut [u16], paths: &mut [Option<W::Value>]) -> W::Value
+        requires { (length survivors.old ≡ 8 * self.now.n) × (32 ≤ length paths.old) }
+        ensures { (bits : ℕ) → bits + 4 ≡ length survivors.new → Traced W.scale self.now.order.now.columns self.now.n (entry_sums W.scale self.now.tally.now) survivors.new bits (W.scale.mean result) }
+    {
+        let (even, rest) = paths.split_first_chunk_mut().unwrap();
+        let (odd, _) = rest.split_first_chunk_mut().unwrap();
         // the message of zeros ends in state 0
-        None => unreachable(),
+        self.forward(survivors, even, odd).unwrap()
     }
-}
-
-// The same, with the path weights behind the first 32 left alone.
-fn run_forward<W: Weighing>(
-    order: &Order,
-    n: usize,
-    tally: &[Entry<W::Value>],
-    survivors: &mut [u16],
-    paths: &mut [Option<W::Value>],
-) -> W::Value
-    requires { (n ≤ 516) × ((1 ≤ n) × ((32 * n ≤ length tally.now) × ((8 * n ≤ length survivors.old) × (32 ≤ length paths.old)))) }
-    ensures traced { (bits : ℕ) → bits + 4 ≡ 8 * n → Traced W.scale order.now.columns n (entry_sums W.scale tally.now) survivors.new bits (W.scale.mean result) }
-    ensures later { drop (8 * n) survivors.new ≡ drop (8 * n) survivors.old }
-    ensures rest { drop 32 paths.new ≡ drop 32 paths.old }
-{
-    run_halves::<W>(order, n, tally, survivors, &mut paths[0..32])
 }
 
 // Names the nearest message by the entries of a tally: writes it and its tail, and answers its weight and whether its
-// check fits.
+// check fits. Each buffer is lent by itself: a struct of loans would hold no fact of its own, and a caller fills it field by field.
 pub fn find_nearest<W: Weighing>(
     size: Size,
     order: &Order,
@@ -75,8 +49,10 @@ pub fn find_nearest<W: Weighing>(
     if tally.len() < 32 * n || target.len() < n || survivors.len() < 8 * n || paths.len() < 32 {
         return Err(FindRefusal::Short);
     }
-    let weight = run_forward::<W>(order, n, tally, survivors, paths);
-    write_path(survivors, n, target);
+    let block = Block::<W>::new(size, order, tally);
+    let words = &mut survivors[..8 * n];
+    let weight = block.run(words, &mut paths[..32]);
+    write_path(words, &mut target[..n]);
     Ok(Found {
         weight,
         check_fits: size.check_fits(target),

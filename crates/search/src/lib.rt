@@ -5,8 +5,11 @@ mod back;
 mod costs;
 mod find;
 mod forward;
+mod state;
 
 pub use find::find_nearest;
+use state::State;
+use thiserror::Error;
 
 // The two weights of a place: what has come there weighs so much against bit 0, and so much against bit 1.
 #[derive(Clone, Copy, Drop)]
@@ -31,18 +34,11 @@ pub(crate) struct Arrival<V> {
     odd: bool,
 }
 
-// One step back along the survivors: the bit of that step, and the state before it.
+// Some steps back along the survivors: what was read of them, a bit or an octet, and the state before them.
 #[derive(Clone, Copy)]
-pub(crate) struct StepBack {
-    bit: bool,
-    state: u8,
-}
-
-// Eight steps back: their bits as an octet, and the state before them.
-#[derive(Clone, Copy)]
-pub(crate) struct OctetBack {
-    octet: u8,
-    state: u8,
+pub(crate) struct StepsBack<T> {
+    read: T,
+    state: State,
 }
 
 // What the search found: the weight of the nearest message, and whether that message's check fits.
@@ -52,9 +48,9 @@ pub struct Found<V> {
     pub check_fits: bool,
 }
 
-// Why no search is made.
-#[derive(Clone, Copy, Debug, PartialEq)]
+// Why no search is made, and the number of the refusal.
+#[derive(Clone, Copy, Debug, PartialEq, Error)]
 pub enum FindRefusal {
-    // 6: tally, target, survivors or path weights are short
-    Short,
+    #[error("the tally, the target, the survivors or the path weights are short")]
+    Short = 6,
 }

@@ -11,14 +11,15 @@ mod tests;
 
 use block::Size;
 pub use runs::short_run;
+use thiserror::Error;
 
-// Why a passage copies nothing.
-#[derive(Clone, Copy, Debug, PartialEq)]
+// Why a passage copies nothing, and the number of each refusal.
+#[derive(Clone, Copy, Debug, PartialEq, Error)]
 pub enum PassageRefusal {
-    // 8: a copy has 1 to 4 * N octets
-    Count,
-    // 6: the buffer has under 4 * N octets, or the target under `count`
-    Short,
+    #[error("a copy has 1 to 4 * N octets")]
+    Count = 8,
+    #[error("the buffer has under 4 * N octets, or the target under the copy's count")]
+    Short = 6,
 }
 
 // What is sent of one block: its size, and the octet of the buffer that comes next.
@@ -42,7 +43,8 @@ impl Drop for Passage<'_> {
         ensures { GiveUpDoes (held self.entry) self.exit.0.now }
     {
         *self.cursor = self.before;
-        let Passage {
+        // Each field is named, since `..` would let the passage go once more.
+        let Self {
             cursor: _,
             before: _,
             octets: _,

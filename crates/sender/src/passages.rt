@@ -9,28 +9,21 @@ impl PassageRefusal {
     pub fn number(self) -> u8
         ensures { result ≡ passage_number self }
     {
-        match self {
-            PassageRefusal::Count => 8,
-            PassageRefusal::Short => 6,
-        }
+        self as u8
     }
 }
 
-// Copies `count` octets from octet `start` on, octet 0 after the last; answers the octet behind them.
-fn copy_round(buffer: &[u8], octets: usize, start: usize, target: &mut [u8], count: usize) -> usize
-    requires { (0 < octets) × ((octets ≤ length buffer.now) × (count ≤ length target.old)) }
-    ensures wrote { target.new ≡ sent buffer.now octets start count ++ drop count target.old }
-    ensures behind { result ≡ (start + count) % octets }
+// Fills the target from octet `start` of the round on, octet 0 after the last; answers the octet behind.
+fn copy_round(round: &[u8], start: usize, target: &mut [u8]) -> usize
+    requires { 0 < length round.now }
+    ensures wrote { target.new ≡ sent round.now (length round.now) start (length target.old) }
+    ensures behind { result ≡ (start + length target.old) % length round.now }
 {
-    let mut at = start % octets;
-    for i in 0..count {
-        target[i] = buffer[at];
-        at += 1;
-        if at == octets {
-            at = 0;
-        }
+    let first = start % round.len();
+    for (i, octet) in target.iter_mut().enumerate() {
+        *octet = round[(first + i) % round.len()];
     }
-    at
+    (first + target.len()) % round.len()
 }
 
 impl<'a> Passage<'a> {
@@ -48,6 +41,7 @@ impl<'a> Passage<'a> {
         }
     }
 
+    // `count` stands beside the target, so that a count above a round and a target that is too short are told apart.
     pub fn copy(
         &mut self,
         buffer: &[u8],
@@ -64,7 +58,7 @@ impl<'a> Passage<'a> {
             return Err(PassageRefusal::Short);
         }
         let start = *self.cursor;
-        *self.cursor = copy_round(buffer, self.octets, start, target, count);
+        *self.cursor = copy_round(&buffer[..self.octets], start, &mut target[..count]);
         Ok(())
     }
 
@@ -79,7 +73,8 @@ impl<'a> Passage<'a> {
     pub fn confirm(self)
         ensures { ConfirmDoes (held self.entry) self.exit.0.now }
     {
-        let Passage {
+        // Each field is named, since `..` would let the passage go, which puts the old standing back.
+        let Self {
             cursor: _,
             before: _,
             octets: _,

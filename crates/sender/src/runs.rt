@@ -11,10 +11,7 @@ pub fn short_run(buffer: &[u8; 8], kept: &mut [u8; 3]) -> Sender
     ensures kept { kept.new ≡ sent buffer.now 8 0 3 }
     ensures sender { (result.size.octets ≡ 1) × (result.size.check ≡ 4) × (result.cursor ≡ 3) }
 {
-    let mut sender = match Sender::new(1, 4) {
-        Ok(sender) => sender,
-        Err(_) => unreachable(),
-    };
+    let mut sender = Sender::new(1, 4).unwrap();
     let mut first = Passage::begin(sender.size(), &mut sender.cursor);
     let _ = first.copy(buffer, kept, 0);
     let _ = first.copy(buffer, kept, 3);

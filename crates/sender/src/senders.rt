@@ -6,7 +6,8 @@ use crate::{Passage, PassageRefusal, Sender};
 use block::{Size, SizeRefusal};
 
 impl Sender {
-    // A sender for the block of a message of T octets with a check of L bits.
+    // A sender for the block of a message of T octets with a check of L bits. The two come as numbers, since the call itself
+    // refuses what is no size.
     pub fn new(octets: usize, check: usize) -> Result<Sender, SizeRefusal>
         ensures { NewDoes octets check result }
     {
@@ -27,7 +28,7 @@ impl Sender {
         self.cursor % (4 * self.size.block_octets())
     }
 
-    // A confirmed passage of one copy.
+    // A confirmed passage of one copy, whose `count` stands beside the target as in `Passage::copy`.
     pub fn send(
         &mut self,
         buffer: &[u8],

@@ -1,11 +1,13 @@
--- The sums that entries mean, after a write. Assumes nothing.
-use Rattle.std.proofs.Common.{◌≡◌, ℕ, ◌+◌, ◌<◌, Bool, true, false, cond, eqb, List, map, length, get_or, drop, set, sym, refl, ap, ◌∙◌, inl, inr, arith}
-use Rattle.std.proofs.lemmas.List.{drop-set-lt, get_or-map, get_or-set_other, get_or-set_same, length-map, map-set}
-use Rattle.std.proofs.lemmas.Bool.{cases_eq, cond_both, cond-false, cond-true, eq-eqb, eqb-false, eqb-true, ne_eqb}
+-- The sums that entries mean, after a write and over a row of places. Assumes nothing.
+use Rattle.std.proofs.Common.{◌≡◌, ℕ, zero, suc, ◌*◌, ◌<◌, ◌≤◌, Bool, cond, eqb, List, [], ◌∷◌, ◌++◌, map, length, get_or, take, drop, set, Option, not-suc-le-zero, le_of_suc-le-suc, length-take-le, sym, ap, ◌∙◌, inl, inr, arith}
+use Rattle.std.proofs.lemmas.List.{get_or-map, get_or-set_other, get_or-set_same, get_or_append_left, drop_at, length-map, map-append, map-set, take-append-drop}
+use Rattle.std.proofs.lemmas.Bool.{cases_eq, cond-false, cond-true, eq-eqb, ne_eqb}
+use Rattle.std.specs.List.{FoldsTo}
 use Rattle.weighing.specs.Scales.{Scale}
 use Rattle.search.specs.Weights.{entry_sums, side}
 use Rattle.search.specs.declared.Entry.{Entry}
-use Rattle.sheet.specs.Laying.{AddsAt}
+use Rattle.sheet.specs.Books.{laid, sum_behind}
+use Rattle.sheet.specs.Calls.{Cleared, Laid}
 
 -- what stands in a list after a write
 get_d_set : {X : Type 0} (xs : List X) (i p : ℕ) (x d : X) → i < length xs → get_or (set xs i x) p d ≡ cond (eqb i p) x (get_or xs p d)
@@ -15,41 +17,58 @@ get_d_set xs i p x d h =
       | inr other ↦ get_or-set_other xs i p x d other ∙ sym (cond-false (eqb i p) x (get_or xs p d) (ne_eqb i p (λ e. other (sym e))))
     ]
 
-pub sums_set : {V : Type 0} (s : Scale V) (tally : List (Entry V)) (place : ℕ) (entry : Entry V) → place < length tally
-    → (p : ℕ) (b : Bool) → entry_sums s (set tally place entry) p b ≡ cond (eqb place p) (s.mean (side b entry)) (entry_sums s tally p b)
-unfolding entry_sums
-sums_set {V} s tally place entry h p b =
-    let f : Entry V → s.Meaning = λ e. s.mean (side b e) in
-    ap (λ xs. get_or xs p s.zero) (map-set f tally place entry)
-    ∙ get_d_set (map f tally) place p (f entry) s.zero (omega (arith, length-map tally f))
-
--- a write that adds weights behind those of the entry that stands there
-pub adds_at : {V : Type 0} (s : Scale V) (tally after : List (Entry V)) (place : ℕ) (old entry : Entry V) (weights : Bool → V) → place < length tally
-    → old ≡ get_or tally place old → after ≡ set tally place entry
-    → ((b : Bool) → s.mean (side b entry) ≡ s.plus (s.mean (side b old)) (s.mean (weights b)))
-    → AddsAt s place weights tally after
-unfolding entry_sums
-adds_at {V} s tally after place old entry weights h read written behind = record {
-  sums = λ p b.
+module _ {V : Type 0} (s : Scale V) where
+  pub sums_set : (tally : List (Entry V)) (place : ℕ) (entry : Entry V) → place < length tally
+      → (p : ℕ) (b : Bool) → entry_sums s (set tally place entry) p b ≡ cond (eqb place p) (s.mean (side b entry)) (entry_sums s tally p b)
+  unfolding entry_sums
+  sums_set tally place entry h p b =
       let f : Entry V → s.Meaning = λ e. s.mean (side b e) in
-      let here : f old ≡ entry_sums s tally place b = ap f read ∙ sym (get_or-map f tally place old s.zero h) in
-      ap (λ xs. entry_sums s xs p b) written
-      ∙ sums_set s tally place entry h p b
-      ∙ at_place (eqb place p) p b (λ e. behind b ∙ ap (λ w. s.plus w (s.mean (weights b))) (here ∙ ap (λ k. entry_sums s tally k b) (eqb-true place p e)));
-  rest = λ m below. ap (drop m) written ∙ drop-set-lt m tally place entry below;
-}
-  where
-    at_place : (t : Bool) (p : ℕ) (b : Bool) → (t ≡ true → s.mean (side b entry) ≡ s.plus (entry_sums s tally p b) (s.mean (weights b)))
-        → cond t (s.mean (side b entry)) (entry_sums s tally p b) ≡ cond t (s.plus (entry_sums s tally p b) (s.mean (weights b))) (entry_sums s tally p b)
-    at_place true p b e = e refl
-    at_place false p b e = refl
+      ap (λ xs. get_or xs p s.zero) (map-set f tally place entry)
+      ∙ get_d_set (map f tally) place p (f entry) s.zero (omega (arith, length-map tally f))
 
--- one place more means zero
-pub zeros_more : {V : Type 0} (s : Scale V) (tally after : List (Entry V)) (place : ℕ) (entry : Entry V) → place < length tally → after ≡ set tally place entry
-    → ((b : Bool) → s.mean (side b entry) ≡ s.zero) → ((p : ℕ) (b : Bool) → p < place → entry_sums s tally p b ≡ s.zero)
-    → (p : ℕ) (b : Bool) → p < place + 1 → entry_sums s after p b ≡ s.zero
-zeros_more s tally after place entry h written zero below p b within =
-    ap (λ xs. entry_sums s xs p b) written
-    ∙ sums_set s tally place entry h p b
-    ∙ cond_both (eqb place p) (s.mean (side b entry)) (entry_sums s tally p b) (λ w. w ≡ s.zero) (λ _. zero b)
-    (λ e. below p b (let other : place ≡ p → ⊥ = eqb-false place p e in omega arith))
+  -- the sums at the place of an entry are what it means
+  pub sums_there : (tally : List (Entry V)) (place : ℕ) (d : Entry V) → place < length tally → (b : Bool) → s.mean (side b (get_or tally place d)) ≡ entry_sums s tally place b
+  unfolding entry_sums
+  sums_there tally place d h b = sym (get_or-map (λ e. s.mean (side b e)) tally place d s.zero h)
+
+  -- and those of the front of a tally are its front's
+  pub sums_front : (front back : List (Entry V)) (p : ℕ) (b : Bool) → p < length front → entry_sums s (front ++ back) p b ≡ entry_sums s front p b
+  unfolding entry_sums
+  sums_front front back p b h =
+      let f : Entry V → s.Meaning = λ e. s.mean (side b e) in
+      ap (λ xs. get_or xs p s.zero) (map-append f front back)
+      ∙ get_or_append_left (map f front) (map f back) s.zero p (omega (arith, length-map front f))
+
+  -- entries that a filling closure gives, each of which means zero
+  pub sums_filled : {F : Type 0} (R : F → Entry V → F → Type 0) (f last : F) (tally : List (Entry V)) → FoldsTo R f tally last
+      → ((f : F) (e : Entry V) (g : F) → R f e g → (b : Bool) → s.mean (side b e) ≡ s.zero) → (p : ℕ) (b : Bool) → p < length tally → entry_sums s tally p b ≡ s.zero
+  unfolding entry_sums
+  sums_filled R f last [] folds each p b h = absurd (not-suc-le-zero h)
+  sums_filled R f last (e ∷ es) folds each zero b h = each f e folds.0 folds.1 b
+  sums_filled R f last (e ∷ es) folds each (suc p) b h = sums_filled R folds.0 last es folds.2 each p b (le_of_suc-le-suc h)
+
+  -- a tally whose front is cleared, or laid on, and whose rest stays
+  module _ (n : ℕ) (before front : List (Entry V)) (whole : 32 * n ≤ length before) (long : length front ≡ length (take (32 * n) before)) where
+    many : length (take (32 * n) before) ≡ 32 * n
+    many = length-take-le (32 * n) before whole
+
+    rest : drop (32 * n) (front ++ drop (32 * n) before) ≡ drop (32 * n) before
+    rest = drop_at front (drop (32 * n) before) (32 * n) (long ∙ many)
+
+    pub cleared_front : ((p : ℕ) (b : Bool) → p < length (take (32 * n) before) → entry_sums s front p b ≡ s.zero) → Cleared s n before (front ++ drop (32 * n) before)
+    cleared_front zeros = record {
+      zeros = λ p b h. sums_front front (drop (32 * n) before) p b (omega (arith, long, many)) ∙ zeros p b (omega (arith, many));
+      rest = rest;
+    }
+
+    pub laid_front : {A : Type 0} (reads : ℕ → Option A) (against : A → Bool → V) (start : ℕ) (octets : List ℕ)
+        → ((p : ℕ) (b : Bool) → entry_sums s front p b ≡ sum_behind reads s against (entry_sums s (take (32 * n) before) p b) p b (laid reads (length (take (32 * n) before)) (8 * start) octets))
+        → Laid s reads against n start octets before (front ++ drop (32 * n) before)
+    laid_front reads against start octets sums = record {
+      sums = λ p b h.
+          let own : entry_sums s (take (32 * n) before) p b ≡ entry_sums s before p b =
+          sym (sums_front (take (32 * n) before) (drop (32 * n) before) p b (omega (arith, many))) ∙ ap (λ xs. entry_sums s xs p b) (take-append-drop (32 * n) before) in
+          sums_front front (drop (32 * n) before) p b (omega (arith, long, many)) ∙ sums p b
+          ∙ (λ i. sum_behind reads s against (own i) p b (laid reads (many i) (8 * start) octets));
+      rest = rest;
+    }

@@ -10,36 +10,43 @@ mod taking;
 use block::{Size, SizeRefusal};
 use code::Order;
 use std::marker::PhantomData;
+use thiserror::Error;
 use weighing::Weighing;
 
 // Why no sheet is opened.
-#[derive(Clone, Copy, Debug, PartialEq)]
+#[derive(Clone, Copy, Debug, PartialEq, Error)]
 pub enum OpenRefusal {
-    // 1 or 2: there is no such size
+    #[error("{0}")]
     Size(SizeRefusal),
-    // 6: the tally has under 32 * N entries
+    // 6
+    #[error("the tally has under 32 * N entries")]
     Tally,
 }
 
-// Why a sheet is not wiped.
-#[derive(Clone, Copy, Debug, PartialEq)]
+// Why a sheet is not wiped, and the number of the refusal.
+#[derive(Clone, Copy, Debug, PartialEq, Error)]
 pub enum WipeRefusal {
-    // 6: the tally has under 32 * N entries
-    Tally,
+    #[error("the tally has under 32 * N entries")]
+    Tally = 6,
 }
 
 // Why symbols are not taken.
-#[derive(Clone, Copy, Debug, PartialEq)]
+#[derive(Clone, Copy, Debug, PartialEq, Error)]
 pub enum TakeRefusal {
-    // 6: the tally has under 32 * N entries
+    // 6
+    #[error("the tally has under 32 * N entries")]
     Tally,
-    // 7: the buffer has no such octet to start at
+    // 7
+    #[error("the buffer has no such octet to start at")]
     Start,
-    // 8: symbols come in eights, from 8 to 32 * N of them
+    // 8
+    #[error("symbols come in eights, from 8 to 32 * N of them")]
     Count,
-    // 10: the sheet would have taken more symbols than it may
+    // 10
+    #[error("the sheet would have taken more symbols than it may")]
     Full,
-    // 9: the octet at this index is no symbol, and it is the first such
+    // 9, of the first such octet by its index
+    #[error("the octet at index {0} is no symbol")]
     Symbol(usize),
 }
 

@@ -15,6 +15,7 @@ impl OpenRefusal {
     pub fn number(self) -> u8
         ensures { result ≡ open_number self }
     {
+        // A cast gives no number here, since a refusal for the size carries its own.
         match self {
             OpenRefusal::Size(refusal) => refusal.number(),
             OpenRefusal::Tally => 6,
@@ -23,7 +24,8 @@ impl OpenRefusal {
 }
 
 impl<W: Weighing> Sheet<W> {
-    // Opens a sheet for reports of a size, and clears the entries of its places in the tally.
+    // Opens a sheet for reports of a size, and clears the entries of its places in the tally. T and L come as numbers, since
+    // the call itself refuses what is no size.
     pub fn open(
         octets: usize,
         check: usize,
@@ -32,15 +34,12 @@ impl<W: Weighing> Sheet<W> {
     ) -> Result<Sheet<W>, OpenRefusal>
         ensures { OpenDoes W.scale octets check order.columns tally.old tally.new result }
     {
-        let size = match Size::new(octets, check) {
-            Ok(size) => size,
-            Err(refusal) => return Err(OpenRefusal::Size(refusal)),
-        };
-        let n = size.block_octets();
-        if tally.len() < 32 * n {
+        let size = Size::new(octets, check).map_err(OpenRefusal::Size)?;
+        let places = 32 * size.block_octets();
+        if tally.len() < places {
             return Err(OpenRefusal::Tally);
         }
-        clear::<W>(tally, n);
+        clear::<W>(&mut tally[..places]);
         Ok(Sheet {
             size,
             order,

@@ -16,9 +16,7 @@ impl WipeRefusal {
     pub fn number(self) -> u8
         ensures { result ≡ wipe_number self }
     {
-        match self {
-            WipeRefusal::Tally => 6,
-        }
+        self as u8
     }
 }
 
@@ -26,6 +24,7 @@ impl TakeRefusal {
     pub fn number(self) -> u8
         ensures { result ≡ take_number self }
     {
+        // A cast gives no number here, since the refusal of a symbol carries its index.
         match self {
             TakeRefusal::Tally => 6,
             TakeRefusal::Start => 7,
@@ -43,11 +42,11 @@ impl<W: Weighing> Sheet<W> {
         ensures size { self.new.size ≡ self.old.size }
         ensures order { self.new.order ≡ self.old.order }
     {
-        let n = self.size.block_octets();
-        if tally.len() < 32 * n {
+        let places = 32 * self.size.block_octets();
+        if tally.len() < places {
             return Err(WipeRefusal::Tally);
         }
-        clear::<W>(tally, n);
+        clear::<W>(&mut tally[..places]);
         self.count = 0;
         Ok(())
     }
@@ -71,14 +70,11 @@ impl<R: Reading> Sheet<R> {
         if self.count + octets.len() > MOST_SYMBOLS {
             return Err(TakeRefusal::Full);
         }
-        match first_unlawful::<R>(octets) {
-            Some(index) => Err(TakeRefusal::Symbol(index)),
-            None => Ok(()),
-        }
+        first_unlawful::<R>(octets).map_or(Ok(()), |index| Err(TakeRefusal::Symbol(index)))
     }
 
     // Takes symbols, one in each octet, and lays them from octet `start` of the report's buffer on. Answers how many were
-    // taken since the opening or the last wipe.
+    // taken since the opening or the last wipe. Tally, start and octets are lent and handed as the book has them, each by itself.
     pub fn take(
         &mut self,
         tally: &mut [Entry<R::Value>],
@@ -90,7 +86,8 @@ impl<R: Reading> Sheet<R> {
         ensures order { self.new.order ≡ self.old.order }
     {
         self.admit(tally.len(), start, octets)?;
-        lay::<R>(tally, self.size.block_octets(), start, octets);
+        let places = 32 * self.size.block_octets();
+        lay::<R>(&mut tally[..places], 8 * start, octets);
         self.count += octets.len();
         Ok(self.count)
     }

@@ -7,13 +7,14 @@ use crate::{Reading, Weighing};
 
 pub struct Hard;
 
-// A bit that came, or none.
+// A bit that came, or none. No `Option`, since a missing bit is a symbol, and `read` answers `None` for what is none.
 #[derive(Clone, Copy, Debug, PartialEq)]
 pub enum HardSymbol {
     Bit(bool),
     Missing,
 }
 
+// A rule of the project: each reading is an implementation of its own, with contracts on every function.
 impl Weighing for Hard {
     type Value = u32;
 

@@ -25,6 +25,7 @@ pub trait Weighing {
     fn sum(a: Self::Value, b: Self::Value) -> Self::Value
         ensures { scale.mean result ≡ scale.plus (scale.mean a) (scale.mean b) };
 
+    // A call of the weighing's and no `Ord` of the values: weights that mean the same count as equal.
     fn at_most(a: Self::Value, b: Self::Value) -> bool
         ensures { Decides result (scale.atmost (scale.mean a) (scale.mean b)) };
 }

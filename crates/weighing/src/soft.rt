@@ -8,6 +8,7 @@ use crate::{Reading, Weighing};
 
 pub struct Soft;
 
+// A rule of the project: each reading is an implementation of its own, with contracts on every function.
 impl Weighing for Soft {
     type Value = u32;
 
@@ -35,6 +36,7 @@ impl Weighing for Soft {
     }
 }
 
+// A rule of the project, as above; what the readings of levels share is `Level`'s.
 impl Reading for Soft {
     type Symbol = Level;
 

@@ -1,24 +1,15 @@
-use Rattle.std.proofs.Common.{◌+◌, get_or, drop, ◌∙◌, arith}
-use Rattle.std.proofs.lemmas.List.{at_drop_more, at_drop_all}
+use Rattle.std.proofs.Common.{◌≡◌, ◌≢◌, refl, ap, arith, rules, sym, ◌∙◌}
+use borrow.Author.Tests.{tests}
+use Rattle.std.proofs.lemmas.Iterator.{IsFirst-from_position, index_from_first, YieldsList-from_slice}
+use Rattle.std.specs.Option.{unwrap_or}
 use Rattle.code.specs.Columns.{index_of}
 use Rattle.code.proofs.Ordered.{index_here, index_later, order_length}
 use Rattle.code.proofs.Order.index_of.Goals as goal
 
-pub returns-then-x-column : goal.returns-then-x-column
-returns-then-x-column c =
-    let a = c.args.column in
-    let cs = c.args.self.now.columns in
-    let i = c.loop-i.i in
-    omega (arith, at_drop_more (index_of a) cs i 0 (omega arith) ∙ index_here a (get_or cs i 0) (drop (i + 1) cs) c.if-x-column.true)
-
-pub loop-i-preserved : goal.loop-i-preserved
-loop-i-preserved c =
-    let a = c.args.column in
-    let cs = c.args.self.now.columns in
-    let i = c.loop-i.i in
-    omega (arith, at_drop_more (index_of a) cs i 0 (omega arith) ∙ index_later a (get_or cs i 0) (drop (i + 1) cs) c.if-x-column.false)
-
 pub returns : goal.returns
 returns c =
+    let a = c.args.column in
     let cs = c.args.self.now.columns in
-    omega (arith, at_drop_all (index_of c.args.column) cs c.loop-i.i (omega (arith, order_length cs c.args.self.now.each)), order_length cs c.args.self.now.each)
+    let first = IsFirst-from_position _ _ _ (λ x. x ≡ a) (λ x. x ≢ a) c.position.ensures.ran (YieldsList-from_slice cs (cc)) (λ x q k. search (rules, tests)) (λ x q k. search (rules, tests)) in
+    let is = index_from_first (index_of a) (λ x. x ≡ a) (λ x. x ≢ a) refl (λ x xs e. index_here a x xs e) (λ x xs d. index_later a x xs d ∙ omega arith) cs _ first in
+    c.unwrap_or.ensures ∙ ap (unwrap_or c.position.result) (sym (order_length cs c.args.self.now.each)) ∙ sym is

@@ -1,6 +1,6 @@
-use Rattle.std.proofs.Common.{sym}
-use Rattle.code.proofs.Ordered.{order_length}
+use Rattle.std.proofs.Common.{rules}
+use Rattle.code.proofs.Ordered.{not_order}
 use Rattle.code.proofs.Order.new.Goals as goal
 
-pub copy_from_slice-requires : goal.copy_from_slice-requires
-copy_from_slice-requires c = sym (order_length c.args.numbers.now (sym c.if-not-is_order.ensures))
+pub returns-in_default-2 : goal.returns-in_default-2
+returns-in_default-2 c = search (rules, not_order)

@@ -1,12 +1,12 @@
-use Rattle.std.proofs.Common.{◌≡◌, ◌-◌, ◌*◌, take, ap, arith, rules}
+use Rattle.std.proofs.Common.{◌≡◌, None, length, arith, rules}
+use Rattle.block.specs.Refusals.{first_refusal}
+use Rattle.block.specs.Sizes.{size_checks}
 use Rattle.code.proofs.Buffers.{encoded_by}
 use Rattle.code.proofs.encode.encode_report.Goals as goal
 
 pub returns : goal.returns
 returns c =
-    let cut : 8 * c.block_octets-n.result - 0 ≡ 8 * c.block_octets-n.result = omega arith in
-    let made = c.in-Ok.ensures in (
+    let made : (first_refusal (size_checks (length c.args.report.now) c.args.check) ≡ None) × (c.in_ok-size.size.octets ≡ length c.args.report.now) × (c.in_ok-size.size.check ≡ c.args.check) = search rules in (
       search rules,
-      encoded_by c.args.report.now c.args.check c.args.order.now.columns c.args.buffer.now _ _ c.code_block.new.steps c.in-Ok.size.octets c.in-Ok.size.check
-          c.block_octets-n.result c.fill.ensures (ap (λ k. take k c.code_block.new.steps) cut) c.block_octets-n.ensures c.code_block.ensures made.1.0 made.1.1,
+      encoded_by _ _ _ _ _ c.in_ok-size.size.octets c.in_ok-size.size.check _ c.encode_block.ensures (omega arith) made.1 made.2,
     )

@@ -1,9 +1,9 @@
-use Rattle.std.proofs.Common.{sym, arith}
-use Rattle.code.proofs.Ordered.{all_below_since, all_below_not}
+use Rattle.std.proofs.Common.{◌<◌, ◌≤◌, rules}
+use borrow.Author.Tests.{tests}
+use Rattle.std.proofs.lemmas.Iterator.{cases_from_all, YieldsList-from_slice}
+use Rattle.code.proofs.Ordered.{all_below_is}
 use Rattle.code.proofs.orders.all_columns.Goals as goal
 
-pub returns-then-x-ge24 : goal.returns-then-x-ge24
-returns-then-x-ge24 c = all_below_not 24 c.args.numbers.now c.loop-x.x-index c.loop-x-test.true c.if-x-ge24.true
-
 pub returns : goal.returns
-returns c = sym (all_below_since 24 c.args.numbers.now (λ i h. c.loop-x.invariant i (omega arith)))
+returns c =
+    all_below_is 24 _ _ (cases_from_all _ _ _ (λ x. x < 24) (λ x. 24 ≤ x) c.all.ensures.ran (YieldsList-from_slice c.args.numbers.now (cc)) (λ x q k. search (rules, tests)) (λ x q k. search (rules, tests)))

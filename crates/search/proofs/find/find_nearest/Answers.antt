@@ -1,28 +1,33 @@
-use Rattle.std.proofs.Common.{◌≡◌, ◌+◌, ◌*◌, [], length, drop, subst, arith}
-use Rattle.std.proofs.lemmas.Bool.{le-ltb, or_from}
-use Rattle.block.specs.Sizes.{block_octets}
-use Rattle.block.proofs.Refused.{passed}
+use Rattle.std.proofs.Common.{◌≡◌, ◌+◌, ◌*◌, ◌++◌, length, drop, ap, sym, ◌∙◌, subst, arith}
+use Rattle.std.proofs.lemmas.Bool.Decides.{nat_tests}
+use Rattle.std.proofs.lemmas.List.{drop_at, length-take-le}
+use Rattle.block.specs.Bits.{filled}
 use Rattle.search.specs.Weights.{entry_sums}
 use Rattle.search.proofs.Naming.{names_since}
 use Rattle.search.proofs.find.find_nearest.Goals as goal
+
+pub run-weight-requires : goal.run-weight-requires
+run-weight-requires g c = (grind (arith, length-take-le), omega (arith, length-take-le 32 c.args.paths.now (omega arith)))
 
 pub returns : goal.returns
 returns g c =
     let s = g.W.Weighing.scale in
     let size = c.args.size in
-    let big = block_octets size.octets size.check in
     let n = c.block_octets-n.result in
     let is = c.block_octets-n.ensures in
-    let whole : 8 * size.octets + size.check + 4 ≡ 8 * n = omega (arith, size.odd_half) in (
-      passed _ 6 []
-          (or_from _ _ (le-ltb (length c.args.tally.now) (32 * big) (omega arith))
-          (or_from _ _ (le-ltb (length c.args.target.now) big (omega arith))
-          (or_from _ _ (le-ltb (length c.args.survivors.now) (8 * big) (omega arith)) (le-ltb (length c.args.paths.now) 32 (omega arith))))),
+    let block = c.new-block.ensures in
+    let bits = 8 * size.octets + size.check in
+    let whole : bits + 4 ≡ 8 * n = omega arith in
+    let kept = c.run-weight.new.survivors in
+    let steps : length kept ≡ 8 * n = c.run-weight.auto.survivors ∙ length-take-le (8 * n) c.args.survivors.now (omega arith) in
+    let halves : length c.run-weight.new.paths ≡ 32 = c.run-weight.auto.paths ∙ length-take-le 32 c.args.paths.now (omega arith) in
+    let traced = rw (block.tally, block.order, block.n ∙ sym is) at (c.run-weight.ensures bits (whole ∙ sym steps)) in (
+      grind (arith, nat_tests),
       (
-        names_since s size.octets size.check c.args.order.now.columns (entry_sums s c.args.tally.now) c.args.target.now c.write_path.new.target c.run_forward-weight.new.survivors
-            (record { weight = c.run_forward-weight.result; check_fits = c.check_fits.result }) n is whole c.write_path.ensures
-            (c.run_forward-weight.ensures.traced (8 * size.octets + size.check) whole) c.check_fits.ensures,
-        subst (λ m. drop (8 * m) c.run_forward-weight.new.survivors ≡ drop (8 * m) c.args.survivors.now) is c.run_forward-weight.ensures.later,
-        c.run_forward-weight.ensures.rest,
+        names_since s size.octets size.check c.args.order.now.columns (entry_sums s c.args.tally.now) c.args.target.now c.write_path.new.target kept
+            (record { weight = c.run-weight.result; check_fits = c.check_fits.result }) n is whole steps
+            (c.write_path.ensures ∙ ap (filled _) (length-take-le n c.args.target.now (omega arith))) traced c.check_fits.ensures,
+        subst (λ m. drop m (kept ++ drop (8 * n) c.args.survivors.now) ≡ drop m c.args.survivors.now) (ap (λ m. 8 * m) is) (drop_at kept (drop (8 * n) c.args.survivors.now) (8 * n) steps),
+        drop_at c.run-weight.new.paths (drop 32 c.args.paths.now) 32 halves,
       ),
     )

@@ -1,8 +1,5 @@
-use Rattle.std.proofs.Common.{◌≡◌, ◌+◌, ◌%◌, ◌++◌, drop}
-use Rattle.sender.specs.Passages.{sent}
+use Rattle.std.proofs.Common.{◌≡◌, ℕ, ◌+◌, ◌%◌, ◌<◌, length, get_or}
 use Rattle.sender.proofs.passages.copy_round.Given as goal
 
 abbrev pub invariant-loop-i : goal.invariant-loop-i
-invariant-loop-i l =
-    (l.at ≡ (l.start + l.i) % l.octets)
-    × (l.target ≡ sent l.buffer l.octets l.start l.i ++ drop l.i l.initial.target)
+invariant-loop-i l = (k : ℕ) → k < l.i → get_or l.target k 0 ≡ get_or l.round ((l.first + k) % length l.round) 0

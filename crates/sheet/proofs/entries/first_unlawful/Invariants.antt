@@ -1,7 +1,10 @@
-use Rattle.std.proofs.Common.{◌≡◌}
+use Rattle.std.proofs.Common.{◌≡◌, ◌+◌, drop}
+use Rattle.std.specs.Option.{option_map}
 use Rattle.sheet.specs.Books.{unlawful}
-use Rattle.sheet.proofs.Symbols.{found_from}
 use Rattle.sheet.proofs.entries.first_unlawful.Given as goal
 
+-- what is left gives the index that all gives, counted from here on
 abbrev pub invariant-loop-i : goal.invariant-loop-i
-invariant-loop-i g l = unlawful g.R.Reading.reads l.octets ≡ found_from g.R.Reading.reads l.octets l.i
+invariant-loop-i g l =
+    let reads = g.R.Reading.reads in
+    unlawful reads l.octets ≡ option_map (λ k. l.i + k) (unlawful reads (drop l.i l.octets))

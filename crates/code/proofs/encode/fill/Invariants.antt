@@ -1,8 +1,0 @@
-use Rattle.std.proofs.Common.{◌≡◌, ◌+◌, ◌*◌, ◌++◌, map, drop}
-use Rattle.std.specs.List.{range_with_len}
-use Rattle.block.specs.Bits.{octet_of}
-use Rattle.code.specs.Places.{place_bit}
-use Rattle.code.proofs.encode.fill.Given as goal
-
-abbrev pub invariant-loop-b : goal.invariant-loop-b
-invariant-loop-b l = l.buffer ≡ map (λ b. octet_of (λ i. place_bit l.order.columns l.n l.steps (8 * b + i))) (range_with_len 0 l.b) ++ drop l.b l.initial.buffer
