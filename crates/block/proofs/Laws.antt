@@ -10,7 +10,7 @@ use Rattle.std.proofs.lemmas.Nat.{shr_split, shr_below, xor_shr, xor_lt, pow_pos
 use Rattle.std.proofs.lemmas.Bool.{cond_both, eqb-true, eqb-false, eq-eqb, or_cases, or_left, or_right, or_from, ne_eqb, not-true, cases_order, cases_eq}
 use Rattle.block.specs.Bits.{bit, bit_at, bits_of, octet_of, value}
 use Rattle.block.specs.Checks.{CheckFits, check_of, extended, polynomial, reduced, term}
-use Rattle.block.specs.Sizes.{OnlySize, octets_permitted, payload, some_size, block_octets}
+use Rattle.block.specs.Sizes.{OnlySize, payload, some_size, block_octets}
 use Rattle.block.proofs.Computed.{below}
 
 -- a number below 2 ^ i has no bit i
@@ -75,9 +75,6 @@ payload_alone a b check k e =
       ]
     ]
 
-permitted : (t : ℕ) → 1 ≤ t → t < 513 → octets_permitted t ≡ true
-permitted t low high = search rules
-
 -- a length that has the payload is found
 pub some_size_at : (n t p check k : ℕ) → 1 ≤ t → t ≤ n → payload t check k ≡ p → some_size n p check k ≡ true
 unfolding some_size
@@ -94,19 +91,14 @@ unfolding some_size
 no_size zero p check k none = refl
 no_size (suc n) p check k none = or_from _ _ (ne_eqb _ _ (none (suc n) (omega arith) (omega arith))) (no_size n p check k (λ t low high. none t low (omega arith)))
 
--- the first length that has the payload is the only one
-pub first_size : (r : Option ℕ) (p check k : ℕ)
-    → MatchOption r ((t : ℕ) → 1 ≤ t → t < 513 → 1 ≤ t → t ≤ 512 → payload t check k ≡ p → ⊥)
-    (λ t. (1 ≤ t) × (t < 513) × (payload t check k ≡ p) × ((s : ℕ) → 1 ≤ s → s < t → 1 ≤ s → s ≤ 512 → payload s check k ≡ p → ⊥))
+-- a length from 1 to 512 that has the payload is the only one, and where none has it none is found
+pub only_size : (r : Option ℕ) (p check k : ℕ)
+    → MatchOption r ((t : ℕ) → 1 ≤ t → t < 513 → payload t check k ≡ p → ⊥) (λ t. (1 ≤ t) × (t < 513) × (payload t check k ≡ p))
     → MatchOption r (some_size 512 p check k ≡ false) (λ t. (some_size 512 p check k ≡ true) × OnlySize p check k t)
-first_size None p check k none = no_size 512 p check k (λ t low high. none t low (omega arith) low high)
-first_size (Some t) p check k found = (
+only_size None p check k none = no_size 512 p check k (λ t low high. none t low (omega arith))
+only_size (Some t) p check k found = (
   some_size_at 512 t p check k found.0 (omega (arith, found)) found.2,
-  record {
-    within = permitted t found.0 found.1;
-    fits = found.2;
-    alone = λ other f. payload_alone other t check k (f ∙ sym found.2);
-  },
+  record { within = search rules; fits = found.2; alone = λ other f. payload_alone other t check k (f ∙ sym found.2) },
 )
 
 -- a fold over the bits of octets, one bit further on

@@ -1,6 +1,6 @@
 // Octets as bits, bit 1 of each octet first.
-ghost use Rattle.std.specs.Prelude.{◌≡◌, ◌*◌, ◌≤◌, false, slice_index_or};
-ghost use Rattle.block.specs.Bits.{bit, bit_at, octet_of, value};
+ghost use Rattle.std.specs.Prelude.{◌≡◌, false, slice_index_or};
+ghost use Rattle.block.specs.Bits.{bit, bit_at, octet_of};
 
 // Bit `i` of a number, of value 2^i.
 pub fn bit_of(x: u32, i: usize) -> bool

@@ -1,5 +1,5 @@
 // The check field: the remainder of the message's bits, times x^L, by the polynomial of the check's length L.
-ghost use Rattle.std.specs.Prelude.{◌≡◌, ◌+◌, ◌*◌, ◌%◌, ◌^◌, ◌<◌, length, if◌then◌else◌, Decides};
+ghost use Rattle.std.specs.Prelude.{◌≡◌, ◌+◌, ◌*◌, ◌^◌, ◌<◌, length, if◌then◌else◌, Decides};
 ghost use Rattle.block.specs.Bits.{bits_of};
 ghost use Rattle.block.specs.Checks.{CheckFits, check_of, extended, polynomial, reduced};
 ghost use Rattle.block.specs.Refusals.{Answers};

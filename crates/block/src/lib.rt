@@ -1,7 +1,7 @@
 // A coded report's block: its sizes, its octets as bits, and its check field.
 #![tactic(auto)]
 
-ghost use Rattle.std.specs.Prelude.{◌≡◌, ℕ, ◌%◌, ◌<◌, ◌≤◌};
+ghost use Rattle.std.specs.Prelude.{◌≡◌, ◌%◌, ◌<◌, ◌≤◌};
 
 mod bits;
 mod checks;

@@ -1,5 +1,5 @@
 // Making a size, and the numbers that follow from it.
-ghost use Rattle.std.specs.Prelude.{◌≡◌, ◌+◌, ◌*◌, ◌/◌};
+ghost use Rattle.std.specs.Prelude.{◌≡◌};
 ghost use Rattle.block.specs.Refusals.{Answers};
 ghost use Rattle.block.specs.Sizes.{check_permitted, block_octets, size_checks, size_number};
 

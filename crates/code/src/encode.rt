@@ -1,11 +1,10 @@
 // Encoding a report into the caller's buffer.
-ghost use Rattle.std.specs.Prelude.{◌≡◌, ℕ, ◌+◌, ◌*◌, ◌<◌, ◌≤◌, Bool, true, ◌++◌, length, take, drop};
-ghost use Rattle.block.specs.Bits.{bits_of, octet_of};
-ghost use Rattle.block.specs.Checks.{check_of, report_bit, report_message};
+ghost use Rattle.std.specs.Prelude.{◌≡◌, ◌*◌, length};
+ghost use Rattle.block.specs.Checks.{report_message};
 ghost use Rattle.block.specs.Sizes.{block_octets};
-ghost use Rattle.code.specs.Places.{buffer_of, output, place_bit};
+ghost use Rattle.code.specs.Places.{buffer_of};
 ghost use Rattle.code.specs.Refused.{encode_number, EncodeDoes};
-ghost use Rattle.code.specs.Register.{after, cells, cleared, coded, trace};
+ghost use Rattle.code.specs.Register.{coded};
 
 use crate::coded::CodedBlock;
 use crate::message::Message;

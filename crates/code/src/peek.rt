@@ -1,5 +1,5 @@
 // Reading a report directly from output 1, with no search.
-ghost use Rattle.std.specs.Prelude.{◌≡◌, ◌^◌, ◌<◌, ◌≤◌, ◌++◌, length, take, drop, Decides};
+ghost use Rattle.std.specs.Prelude.{◌≡◌, ◌^◌, ◌<◌, Decides};
 ghost use Rattle.block.specs.Bits.{bits_of};
 ghost use Rattle.code.specs.Refused.{peek_number, PeekDoes, TailFits};
 ghost use Rattle.code.specs.Register.{after, cells, cleared};

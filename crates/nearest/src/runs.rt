@@ -1,5 +1,5 @@
 // A run of a sheet by the calls themselves.
-ghost use Rattle.std.specs.Prelude.{◌≡◌, ◌<◌, ◌≤◌, length, MatchOption};
+ghost use Rattle.std.specs.Prelude.{◌≡◌, ◌<◌, length, MatchOption};
 ghost use Rattle.code.specs.Columns.{order_r};
 ghost use Rattle.nearest.specs.Runs.{ThreeCalls};
 

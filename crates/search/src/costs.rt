@@ -1,5 +1,5 @@
 // The entries of a block, and what a step weighs by those of its outputs.
-ghost use Rattle.std.specs.Prelude.{◌≡◌, ℕ, ◌+◌, ◌*◌, ◌<◌, ◌≤◌, Bool, length};
+ghost use Rattle.std.specs.Prelude.{◌≡◌, ◌+◌, ◌*◌, ◌<◌, ◌≤◌, Bool, length};
 ghost use Rattle.block.specs.Sizes.{block_octets};
 ghost use Rattle.code.specs.Columns.{index_of};
 ghost use Rattle.code.specs.Places.{place_of};

@@ -1,5 +1,5 @@
 // Beginning a passage, copying the next octets, and keeping the new standing.
-ghost use Rattle.std.specs.Prelude.{◌≡◌, ◌+◌, ◌%◌, ◌<◌, ◌≤◌, ◌++◌, length, drop};
+ghost use Rattle.std.specs.Prelude.{◌≡◌, ◌+◌, ◌%◌, ◌<◌, length};
 ghost use Rattle.sender.specs.Passages.{BeginDoes, CopyDoes, ConfirmDoes, GiveUpDoes, held, passage_number, sent};
 
 use crate::{Passage, PassageRefusal};

@@ -47,15 +47,18 @@ module _ {V : Type 0} (s : Scale V) where
   sums_filled R f last (e ∷ es) folds each zero b h = each f e folds.0 folds.1 b
   sums_filled R f last (e ∷ es) folds each (suc p) b h = sums_filled R folds.0 last es folds.2 each p b (le_of_suc-le-suc h)
 
-  -- a tally whose front is cleared, or laid on, and whose rest stays
-  module _ (n : ℕ) (before front : List (Entry V)) (whole : 32 * n ≤ length before) (long : length front ≡ length (take (32 * n) before)) where
-    many : length (take (32 * n) before) ≡ 32 * n
-    many = length-take-le (32 * n) before whole
+  -- a tally whose front, the n octets' places of a block of m, is cleared or laid on, and whose rest stays
+  module _ (n m : ℕ) (is : n ≡ m) (before front : List (Entry V)) (whole : 32 * n ≤ length before) (long : length front ≡ length (take (32 * n) before)) where
+    abbrev after : List (Entry V)
+    after = front ++ drop (32 * n) before
 
-    rest : drop (32 * n) (front ++ drop (32 * n) before) ≡ drop (32 * n) before
-    rest = drop_at front (drop (32 * n) before) (32 * n) (long ∙ many)
+    many : length (take (32 * n) before) ≡ 32 * m
+    many = length-take-le (32 * n) before whole ∙ ap (λ k. 32 * k) is
 
-    pub cleared_front : ((p : ℕ) (b : Bool) → p < length (take (32 * n) before) → entry_sums s front p b ≡ s.zero) → Cleared s n before (front ++ drop (32 * n) before)
+    rest : drop (32 * m) after ≡ drop (32 * m) before
+    rest = drop_at front (drop (32 * n) before) (32 * m) (long ∙ many) ∙ ap (λ k. drop (32 * k) before) is
+
+    pub cleared_front : ((p : ℕ) (b : Bool) → p < length (take (32 * n) before) → entry_sums s front p b ≡ s.zero) → Cleared s m before after
     cleared_front zeros = record {
       zeros = λ p b h. sums_front front (drop (32 * n) before) p b (omega (arith, long, many)) ∙ zeros p b (omega (arith, many));
       rest = rest;
@@ -63,7 +66,7 @@ module _ {V : Type 0} (s : Scale V) where
 
     pub laid_front : {A : Type 0} (reads : ℕ → Option A) (against : A → Bool → V) (start : ℕ) (octets : List ℕ)
         → ((p : ℕ) (b : Bool) → entry_sums s front p b ≡ sum_behind reads s against (entry_sums s (take (32 * n) before) p b) p b (laid reads (length (take (32 * n) before)) (8 * start) octets))
-        → Laid s reads against n start octets before (front ++ drop (32 * n) before)
+        → Laid s reads against m start octets before after
     laid_front reads against start octets sums = record {
       sums = λ p b h.
           let own : entry_sums s (take (32 * n) before) p b ≡ entry_sums s before p b =

@@ -1,5 +1,5 @@
 // The entries of a tally: clearing them, and laying symbols on them.
-ghost use Rattle.std.specs.Prelude.{◌≡◌, ℕ, ◌+◌, ◌<◌, ◌≤◌, Bool, length};
+ghost use Rattle.std.specs.Prelude.{◌≡◌, ℕ, ◌<◌, ◌≤◌, Bool, length};
 ghost use Rattle.search.specs.Weights.{entry_sums, side};
 ghost use Rattle.sheet.specs.Books.{laid, sum_behind, unlawful};
 ghost use Rattle.sheet.specs.Laying.{laid_on};

@@ -1,6 +1,5 @@
-use Rattle.std.proofs.Common.{◌≡◌, ℕ, ◌+◌, ◌<◌, false, get_or, sym, ap, ◌∙◌, arith, rules}
+use Rattle.std.proofs.Common.{◌≡◌, ℕ, ◌+◌, ◌<◌, false, get_or, sym, ap, ◌∙◌, rules}
 use borrow.Author.Tests.{tests}
-use Rattle.std.proofs.lemmas.Iterator.{cases_from_all, YieldsList-from_range}
 use Rattle.block.specs.Bits.{bit_at, bits_of}
 use Rattle.block.proofs.Ranges.{decides_below}
 use Rattle.code.specs.Register.{after, cells, cleared, silent, tail}
@@ -10,7 +9,7 @@ use Rattle.code.proofs.peek.tail_fits.Goals as goal
 pub returns : goal.returns
 returns c =
     let came : ℕ → Type 0 = λ i. bit_at c.args.received.now (c.args.bits + i) ≡ (get_or c.close-tail.result i silent.outputs).v1 in
-    let fits = decides_below _ 4 came (cases_from_all _ _ _ came (λ i. came i → ⊥) c.all.ensures.ran (YieldsList-from_range 0 4 4 (cc) (omega arith)) (λ x q k. search (rules, tests)) (λ x q k. search (rules, tests))) in
+    let fits = decides_below _ _ _ 4 came (cc) c.all.ensures.ran (λ x q k. search (rules, tests)) (λ x q k. search (rules, tests)) in
     let own : (i : ℕ) → i < 4 → (get_or c.close-tail.result i silent.outputs).v1 ≡ get_or (tail (after cleared (bits_of c.args.received.now c.args.bits))) i false =
     λ i h.
     ap (λ xs. (get_or xs i silent.outputs).v1) c.close-tail.ensures.answer
