@@ -1,6 +1,6 @@
 -- Sizes of a block, by the message's octets T and the check's length L in bits. Assumes nothing.
 use Rattle.std.specs.Prelude.{◌≡◌, ℕ, zero, suc, ◌+◌, ◌*◌, ◌/◌, Bool, true, false, not, ◌||◌, List, [], ◌∷◌, ◌++◌, ◌==◌, nat_lt}
-use Rattle.block.specs.Refusals.{Check, if_refuse}
+use Rattle.block.specs.Refusals.{Case, Check, if_refuse, numbered}
 use Rattle.block.specs.declared.SizeRefusal.{SizeRefusal}
 use Rattle.block.specs.declared.SizeRefusal.TheVariants.{Octets, CheckLength}
 use Rattle.block.specs.declared.PlanRefusal.{PlanRefusal}
@@ -31,15 +31,16 @@ unfoldable pub some_size : ℕ → ℕ → ℕ → ℕ → Bool
 some_size zero p check k = false
 some_size (suc n) p check k = payload (suc n) check k == p || some_size n p check k
 
--- each refusal has its number
-abbrev pub size_number : SizeRefusal → ℕ
-size_number Octets = 1
-size_number CheckLength = 2
+-- the cases of a refusal for the size
+abbrev pub size_case : SizeRefusal → Case
+size_case Octets = numbered 1
+size_case CheckLength = numbered 2
 
-abbrev pub plan_number : PlanRefusal → ℕ
-plan_number (Size e) = size_number e
-plan_number Rate = 3
-plan_number Length = 5
+-- of a plan's, a refusal for the size stands for what it stands for by itself
+abbrev pub plan_case : PlanRefusal → Case
+plan_case (Size e) = size_case e
+plan_case Rate = numbered 3
+plan_case Length = numbered 5
 
 -- the checks of every call that is handed T and L
 abbrev pub size_checks : ℕ → ℕ → List Check

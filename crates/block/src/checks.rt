@@ -3,7 +3,7 @@ ghost use Rattle.std.specs.Prelude.{◌≡◌, ◌+◌, ◌*◌, ◌^◌, ◌<�
 ghost use Rattle.block.specs.Bits.{bits_of};
 ghost use Rattle.block.specs.Checks.{CheckFits, check_of, extended, polynomial, reduced};
 ghost use Rattle.block.specs.Refusals.{Answers};
-ghost use Rattle.block.specs.Sizes.{size_checks, size_number};
+ghost use Rattle.block.specs.Sizes.{size_checks, size_case};
 
 use crate::{Size, SizeRefusal, bit_at, bit_of};
 
@@ -70,7 +70,7 @@ impl Size {
 
 // The check field of a message: bit j is the coefficient of x^j.
 pub fn check_field(octets: &[u8], check: usize) -> Result<u32, SizeRefusal>
-    ensures { Answers (size_checks (length octets.now) check) size_number (λ f. f ≡ check_of check (bits_of octets.now (8 * length octets.now))) result }
+    ensures { Answers (size_checks (length octets.now) check) size_case (λ f. f ≡ check_of check (bits_of octets.now (8 * length octets.now))) result }
 {
     let size = Size::new(octets.len(), check)?;
     Ok(size.check_over(octets))

@@ -1,14 +1,14 @@
 // From a message's octets to those of its first payload, and back.
 ghost use Rattle.std.specs.Prelude.{◌≡◌, ◌≤◌, true, false, MatchOption};
 ghost use Rattle.block.specs.Refusals.{Answers};
-ghost use Rattle.block.specs.Sizes.{payload, check_permitted, some_size, plan_checks, plan_number, back_checks, OnlySize};
+ghost use Rattle.block.specs.Sizes.{payload, check_permitted, some_size, plan_checks, plan_case, back_checks, OnlySize};
 
 use crate::sizes::permits_check;
 use crate::{PlanRefusal, Size, SizeRefusal};
 
 impl PlanRefusal {
     pub fn number(self) -> u8
-        ensures { result ≡ plan_number self }
+        ensures { result ≡ (plan_case self).number }
     {
         // A cast gives no number here, since a refusal for the size carries its own.
         match self {
@@ -31,7 +31,7 @@ impl Size {
 
 // P, from T, L and k. They come as numbers and no `Size`, since the call itself refuses what is none.
 pub fn plan(octets: usize, check: usize, k: usize) -> Result<usize, PlanRefusal>
-    ensures { Answers (plan_checks octets check k) plan_number (λ p. p ≡ payload octets check k) result }
+    ensures { Answers (plan_checks octets check k) plan_case (λ p. p ≡ payload octets check k) result }
 {
     // by the case's name: of a derived `From` no clause says which case it makes
     let size = Size::new(octets, check).map_err(PlanRefusal::Size)?;
@@ -52,7 +52,7 @@ fn octets_for(p: usize, check: usize, k: usize) -> Option<usize>
 
 // T, from P, L and k, which come as numbers too.
 pub fn back(p: usize, check: usize, k: usize) -> Result<usize, PlanRefusal>
-    ensures { Answers (back_checks p check k) plan_number (λ octets. OnlySize p check k octets) result }
+    ensures { Answers (back_checks p check k) plan_case (λ octets. OnlySize p check k octets) result }
 {
     if !permits_check(check) {
         return Err(PlanRefusal::Size(SizeRefusal::CheckLength));

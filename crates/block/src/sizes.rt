@@ -1,7 +1,7 @@
 // Making a size, and the numbers that follow from it.
 ghost use Rattle.std.specs.Prelude.{◌≡◌};
 ghost use Rattle.block.specs.Refusals.{Answers};
-ghost use Rattle.block.specs.Sizes.{check_permitted, block_octets, size_checks, size_number};
+ghost use Rattle.block.specs.Sizes.{check_permitted, block_octets, size_checks, size_case};
 
 use crate::{Size, SizeRefusal};
 
@@ -13,7 +13,7 @@ pub(crate) fn permits_check(check: usize) -> bool
 
 impl SizeRefusal {
     pub fn number(self) -> u8
-        ensures { result ≡ size_number self }
+        ensures { result ≡ (size_case self).number }
     {
         self as u8
     }
@@ -21,7 +21,7 @@ impl SizeRefusal {
 
 impl Size {
     pub fn new(octets: usize, check: usize) -> Result<Size, SizeRefusal>
-        ensures { Answers (size_checks octets check) size_number (λ s. (s.octets ≡ octets) × (s.check ≡ check)) result }
+        ensures { Answers (size_checks octets check) size_case (λ s. (s.octets ≡ octets) × (s.check ≡ check)) result }
     {
         if !(1..=512).contains(&octets) {
             return Err(SizeRefusal::Octets);
