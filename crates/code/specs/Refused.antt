@@ -2,8 +2,8 @@
 use Rattle.std.specs.Prelude.{◌≡◌, ℕ, ◌+◌, ◌*◌, ◌<◌, false, not, List, [], ◌∷◌, ◌++◌, length, take, drop, Decides, Result, nat_lt, slice_index_or}
 use Rattle.block.specs.Bits.{bit_at, bits_of}
 use Rattle.block.specs.Checks.{CheckFits, report_message}
-use Rattle.block.specs.Refusals.{Check, if_refuse, Performs}
-use Rattle.block.specs.Sizes.{block_octets, size_checks, size_number}
+use Rattle.block.specs.Refusals.{Case, Check, if_refuse, numbered, Performs}
+use Rattle.block.specs.Sizes.{block_octets, size_checks, size_case}
 use Rattle.code.specs.Columns.{is_order}
 use Rattle.code.specs.Places.{buffer_of}
 use Rattle.code.specs.Register.{after, cleared, coded, tail}
@@ -15,15 +15,16 @@ use Rattle.code.specs.declared.PeekRefusal.{PeekRefusal}
 use Rattle.code.specs.declared.PeekRefusal.TheVariants.{Size as peek_size, Received, Target}
 use Rattle.code.specs.declared.Peeked.{Peeked}
 
-abbrev pub order_number : OrderRefusal → ℕ
-order_number Columns = 4
+-- the cases of each refusal
+abbrev pub order_case : OrderRefusal → Case
+order_case Columns = numbered 4
 
 abbrev pub order_checks : List ℕ → List Check
 order_checks numbers = if_refuse (not (is_order numbers)) 4 ∷ []
 
-abbrev pub encode_number : EncodeRefusal → ℕ
-encode_number (encode_size e) = size_number e
-encode_number Buffer = 6
+abbrev pub encode_case : EncodeRefusal → Case
+encode_case (encode_size e) = size_case e
+encode_case Buffer = numbered 6
 
 -- a report of T octets, a check of L bits, and a buffer of so many octets
 abbrev pub encode_checks : ℕ → ℕ → ℕ → List Check
@@ -37,14 +38,14 @@ encoded report check order =
 -- What encode does: the buffer's first 4 * N octets are those of the report, and the rest stays.
 abbrev pub EncodeDoes : List ℕ → ℕ → List ℕ → List ℕ → List ℕ → Result (Unit {0}) EncodeRefusal → Type 0
 EncodeDoes report check order before after r =
-    Performs (encode_checks (length report) check (length before)) encode_number
+    Performs (encode_checks (length report) check (length before)) encode_case
     (λ _. after ≡ encoded report check order ++ drop (4 * block_octets (length report) check) before)
     (after ≡ before) r
 
-abbrev pub peek_number : PeekRefusal → ℕ
-peek_number (peek_size e) = size_number e
-peek_number Received = 5
-peek_number Target = 6
+abbrev pub peek_case : PeekRefusal → Case
+peek_case (peek_size e) = size_case e
+peek_case Received = numbered 5
+peek_case Target = numbered 6
 
 abbrev pub peek_checks : ℕ → ℕ → ℕ → ℕ → List Check
 peek_checks octets check came room =
@@ -57,7 +58,7 @@ TailFits received bits = (i : ℕ) → i < 4 → bit_at received (bits + i) ≡ 
 -- What peek does: it reads output 1 as it came, writes the report's octets, and tells whether check and tail fit.
 abbrev pub PeekDoes : List ℕ → ℕ → ℕ → List ℕ → List ℕ → Result Peeked PeekRefusal → Type 0
 PeekDoes received octets check before after r =
-    Performs (peek_checks octets check (length received) (length before)) peek_number
+    Performs (peek_checks octets check (length received) (length before)) peek_case
     (λ p. Decides p.check_fits (CheckFits octets check (bits_of received (8 * octets + check)))
     × Decides p.tail_fits (TailFits received (8 * octets + check))
     × (after ≡ take octets received ++ drop octets before))

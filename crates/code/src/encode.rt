@@ -3,7 +3,7 @@ ghost use Rattle.std.specs.Prelude.{◌≡◌, ◌*◌, length};
 ghost use Rattle.block.specs.Checks.{report_message};
 ghost use Rattle.block.specs.Sizes.{block_octets};
 ghost use Rattle.code.specs.Places.{buffer_of};
-ghost use Rattle.code.specs.Refused.{encode_number, EncodeDoes};
+ghost use Rattle.code.specs.Refused.{encode_case, EncodeDoes};
 ghost use Rattle.code.specs.Register.{coded};
 
 use crate::coded::CodedBlock;
@@ -16,7 +16,7 @@ const MOST_STEPS: usize = 4128;
 
 impl EncodeRefusal {
     pub fn number(self) -> u8
-        ensures { result ≡ encode_number self }
+        ensures { result ≡ (encode_case self).number }
     {
         // A cast gives no number here, since a refusal for the size carries its own.
         match self {

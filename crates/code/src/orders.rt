@@ -2,7 +2,7 @@
 ghost use Rattle.std.specs.Prelude.{◌≡◌, true};
 ghost use Rattle.block.specs.Refusals.{Answers};
 ghost use Rattle.code.specs.Columns.{all_below, count_of, each_once, follows_masks, index_of, is_order, order_r};
-ghost use Rattle.code.specs.Refused.{order_checks, order_number};
+ghost use Rattle.code.specs.Refused.{order_checks, order_case};
 
 use crate::{Order, OrderRefusal};
 
@@ -34,7 +34,7 @@ fn is_order(numbers: &[u8; 24]) -> bool
 
 impl OrderRefusal {
     pub fn number(self) -> u8
-        ensures { result ≡ order_number self }
+        ensures { result ≡ (order_case self).number }
     {
         self as u8
     }
@@ -56,15 +56,16 @@ impl Order {
         Order::R
     }
 
-    // Order S: each rate of the puncturing table keeps the first columns of this order.
+    // Order S: each rate of the puncturing table keeps the first columns of this order. It turns out to be order R.
     pub fn order_s() -> Order
-        ensures { follows_masks result.columns ≡ true }
+        ensures masks { follows_masks result.columns ≡ true }
+        ensures is { result.columns ≡ order_r }
     {
         Order::S
     }
 
     pub fn new(numbers: &[u8]) -> Result<Order, OrderRefusal>
-        ensures { Answers (order_checks numbers.now) order_number (λ o. o.columns ≡ numbers.now) result }
+        ensures { Answers (order_checks numbers.now) order_case (λ o. o.columns ≡ numbers.now) result }
     {
         match <[u8; 24]>::try_from(numbers) {
             Ok(columns) if is_order(&columns) => Ok(Order { columns }),

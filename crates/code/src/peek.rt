@@ -1,7 +1,7 @@
 // Reading a report directly from output 1, with no search.
 ghost use Rattle.std.specs.Prelude.{◌≡◌, ◌^◌, ◌<◌, Decides};
 ghost use Rattle.block.specs.Bits.{bits_of};
-ghost use Rattle.code.specs.Refused.{peek_number, PeekDoes, TailFits};
+ghost use Rattle.code.specs.Refused.{peek_case, PeekDoes, TailFits};
 ghost use Rattle.code.specs.Register.{after, cells, cleared};
 
 use crate::{PeekRefusal, Peeked, Register};
@@ -9,7 +9,7 @@ use block::{Size, bit_at};
 
 impl PeekRefusal {
     pub fn number(self) -> u8
-        ensures { result ≡ peek_number self }
+        ensures { result ≡ (peek_case self).number }
     {
         // A cast gives no number here, since a refusal for the size carries its own.
         match self {

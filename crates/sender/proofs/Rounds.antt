@@ -6,7 +6,7 @@ use Rattle.std.proofs.lemmas.List.{append-nil, take_at, length-append, get_or_ap
 use Rattle.std.proofs.lemmas.Bool.{cases_lt}
 use Rattle.sender.specs.declared.PassageRefusal.{PassageRefusal}
 use Rattle.sender.specs.Passages.{Guard, round, sent, CopyDoes}
-use Rattle.sender.specs.Runs.{Copies, none, next, Run, made, confirmed, given_up, written, asked_of, SendsInRounds}
+use Rattle.sender.specs.Runs.{Copies, none, next, OwnBuffer, Run, made, confirmed, given_up, written, asked_of, SendsInRounds}
 
 -- what is sent from octet a on, and then from behind that on
 sent_add : (buffer : List ℕ) (octets a m n : ℕ) → sent buffer octets a m ++ sent buffer octets (a + m) n ≡ sent buffer octets a (m + n)
@@ -32,12 +32,12 @@ record Followed (buffer : List ℕ) (g h : Guard) (a : ℕ) (wrote : List ℕ) (
   octets_is : h.octets ≡ g.octets
 
 -- one copy more, performed or refused
-step : (buffer : List ℕ) (g h h' : Guard) (a : ℕ) (wrote : List ℕ) (asked : ℕ) (target target' : List ℕ) (count : ℕ) (r : Result Unit PassageRefusal)
-    → Followed buffer g h a wrote asked → CopyDoes buffer target target' count h h' r
+step : (buffer : List ℕ) (g h h' : Guard) (a : ℕ) (wrote : List ℕ) (asked : ℕ) (handed target target' : List ℕ) (count : ℕ) (r : Result Unit PassageRefusal)
+    → Followed buffer g h a wrote asked → CopyDoes handed target target' count h h' r → OwnBuffer r handed buffer
     → Followed buffer g h' a (wrote ++ written r count target') (asked + asked_of r count)
-step buffer g h h' a wrote asked target target' count (Ok x) f d =
+step buffer g h h' a wrote asked handed target target' count (Ok x) f d own =
     let octets = g.octets in
-    let front = take_at (sent buffer h.octets h.cursor count) (drop count target) count (length-map-range_with_len _ 0 count) in
+    let front = take_at (sent handed h.octets h.cursor count) (drop count target) count (length-map-range_with_len _ 0 count) in
     let placed = sent_mod buffer octets (a + asked) count in
     let more = sent_add buffer octets a asked count in
     let turn = mod-add-mod (a + asked) octets count in
@@ -47,7 +47,7 @@ step buffer g h h' a wrote asked target target' count (Ok x) f d =
       cursor_is = cc;
       octets_is = cc;
     }
-step buffer g h h' a wrote asked target target' count (Err e) f d =
+step buffer g h h' a wrote asked handed target target' count (Err e) f d own =
     let same = add-zero asked in
     record {
       wrote_is = cc (append-nil wrote);
@@ -58,8 +58,8 @@ step buffer g h h' a wrote asked target target' count (Err e) f d =
 -- a passage remembers where it began
 stays : {buffer : List ℕ} {g h : Guard} {wrote : List ℕ} {asked : ℕ} → Copies buffer g h wrote asked → h.before ≡ g.before
 stays none = refl
-stays (next c target target' count h' (Ok x) d) = ap (λ k. k.before) d.1.1 ∙ stays c
-stays (next c target target' count h' (Err e) d) = ap (λ k. k.before) d.1.1 ∙ stays c
+stays (next c handed target target' count h' (Ok x) d own) = ap (λ k. k.before) d.1.1 ∙ stays c
+stays (next c handed target target' count h' (Err e) d own) = ap (λ k. k.before) d.2.1 ∙ stays c
 
 -- so it is after any copies on a passage
 followed : (buffer : List ℕ) (g h : Guard) (a : ℕ) (wrote : List ℕ) (asked : ℕ) → Copies buffer g h wrote asked → g.cursor ≡ a % g.octets → Followed buffer g h a wrote asked
@@ -69,8 +69,8 @@ followed buffer g _ a _ _ none e =
       cursor_is = cc (e, add-zero a);
       octets_is = refl;
     }
-followed buffer g _ a _ _ (next {h} {wrote} {asked} c target target' count h' r d) e =
-    step buffer g h h' a wrote asked target target' count r (followed buffer g h a wrote asked c e) d
+followed buffer g _ a _ _ (next {h} {wrote} {asked} c handed target target' count h' r d own) e =
+    step buffer g h h' a wrote asked handed target target' count r (followed buffer g h a wrote asked c e) d own
 
 -- what a run keeps up
 record Kept (octets check : ℕ) (buffer : List ℕ) (cursor : ℕ) (kept : List ℕ) (asked : ℕ) : Type 0 where

@@ -1,18 +1,18 @@
 -- What the calls of a sender and its passages do. Assumes nothing.
 use Rattle.std.specs.Prelude.{◌≡◌, ℕ, ◌+◌, ◌*◌, ◌%◌, ◌||◌, List, [], ◌∷◌, ◌++◌, map, length, drop, Result, ◌==◌, nat_lt, slice_index}
 use Rattle.std.specs.List.{range_with_len}
-use Rattle.block.specs.Refusals.{Check, if_refuse, Performs, Answers}
-use Rattle.block.specs.Sizes.{block_octets, size_checks, size_number}
+use Rattle.block.specs.Refusals.{Case, Check, if_refuse, numbered, Performs, Answers}
+use Rattle.block.specs.Sizes.{block_octets, size_checks, size_case}
 use Rattle.block.specs.declared.SizeRefusal.{SizeRefusal}
 use Rattle.sender.specs.declared.Passage.{Passage}
 use Rattle.sender.specs.declared.Sender.{Sender}
 use Rattle.sender.specs.declared.PassageRefusal.{PassageRefusal}
 use Rattle.sender.specs.declared.PassageRefusal.TheVariants.{Count, Short}
 
--- each refusal has its number
-abbrev pub passage_number : PassageRefusal → ℕ
-passage_number Count = 8
-passage_number Short = 6
+-- the cases of the refusal of a copy
+abbrev pub passage_case : PassageRefusal → Case
+passage_case Count = numbered 8
+passage_case Short = numbered 6
 
 -- a round is the 4 * N octets of the buffer
 abbrev pub round : ℕ → ℕ → ℕ
@@ -34,7 +34,7 @@ held p = record { cursor = p.cursor.now; before = p.before; octets = p.octets }
 -- A sender is made for a size, and stands at octet 0.
 abbrev pub NewDoes : ℕ → ℕ → Result Sender SizeRefusal → Type 0
 NewDoes octets check r =
-    Answers (size_checks octets check) size_number (λ s. (s.size.octets ≡ octets) × (s.size.check ≡ check) × (s.cursor ≡ 0)) r
+    Answers (size_checks octets check) size_case (λ s. (s.size.octets ≡ octets) × (s.size.check ≡ check) × (s.cursor ≡ 0)) r
 
 -- a passage that began at `before` and has come to `cursor`
 abbrev pub passing : ℕ → ℕ → ℕ → ℕ → Guard
@@ -56,7 +56,7 @@ onward g count = record { cursor = (g.cursor + count) % g.octets; before = g.bef
 -- A copy fills the target's front with the next octets, and moves on; a refused one changes nothing.
 abbrev pub CopyDoes : List ℕ → List ℕ → List ℕ → ℕ → Guard → Guard → Result Unit PassageRefusal → Type 0
 CopyDoes buffer target target' count g g' r =
-    Performs (copy_checks g.octets (length buffer) (length target) count) passage_number
+    Performs (copy_checks g.octets (length buffer) (length target) count) passage_case
     (λ _. (target' ≡ sent buffer g.octets g.cursor count ++ drop count target) × (g' ≡ onward g count))
     ((target' ≡ target) × (g' ≡ g)) r
 

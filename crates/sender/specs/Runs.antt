@@ -14,12 +14,18 @@ abbrev pub asked_of : Result Unit PassageRefusal → ℕ → ℕ
 asked_of (Ok _) count = count
 asked_of (Err _) count = 0
 
+-- A performed copy was handed the buffer of the run. A refused one may have been handed any, one that is short among them.
+abbrev pub OwnBuffer : Result Unit PassageRefusal → List ℕ → List ℕ → Type 0
+OwnBuffer (Ok _) handed buffer = handed ≡ buffer
+OwnBuffer (Err _) handed buffer = Unit {0}
+
 -- Copies on the passage g, one after another, into any targets: where the passage then stands, what they wrote in all,
 -- and how many octets they were asked for.
 pub data Copies (buffer : List ℕ) (g : Guard) : Guard → List ℕ → ℕ → Type 0 where
   none : Copies buffer g g [] 0
   next : {h : Guard} {wrote : List ℕ} {asked : ℕ} → Copies buffer g h wrote asked
-      → (target target' : List ℕ) (count : ℕ) (h' : Guard) (r : Result Unit PassageRefusal) → CopyDoes buffer target target' count h h' r
+      → (handed target target' : List ℕ) (count : ℕ) (h' : Guard) (r : Result Unit PassageRefusal) → CopyDoes handed target target' count h h' r
+      → OwnBuffer r handed buffer
       → Copies buffer g h' (wrote ++ written r count target') (asked + asked_of r count)
 
 -- A sender for T and L that has come to stand at `cursor`: the octets that its confirmed passages copied, joined in order,

@@ -1,13 +1,13 @@
 // Beginning a passage, copying the next octets, and keeping the new standing.
 ghost use Rattle.std.specs.Prelude.{◌≡◌, ◌+◌, ◌%◌, ◌<◌, length};
-ghost use Rattle.sender.specs.Passages.{BeginDoes, CopyDoes, ConfirmDoes, GiveUpDoes, held, passage_number, sent};
+ghost use Rattle.sender.specs.Passages.{BeginDoes, CopyDoes, ConfirmDoes, GiveUpDoes, held, passage_case, sent};
 
 use crate::{Passage, PassageRefusal};
 use block::Size;
 
 impl PassageRefusal {
     pub fn number(self) -> u8
-        ensures { result ≡ passage_number self }
+        ensures { result ≡ (passage_case self).number }
     {
         self as u8
     }

@@ -9,4 +9,4 @@ invariant_of-result c = record { each = refl }
 -- the one computed proof that the constant is what the masks say
 pub returns : goal.returns
 unfolding follows_masks
-returns c = refl
+returns c = record { masks = refl; is = refl }

@@ -3,7 +3,7 @@ use Rattle.std.proofs.lemmas.List.{take_all}
 use Rattle.block.specs.Refusals.{first_refusal}
 use Rattle.sender.specs.declared.PassageRefusal.{PassageRefusal}
 use Rattle.sender.specs.Passages.{Guard, NewDoes, BeginDoes, CopyDoes, held, copy_checks}
-use Rattle.sender.specs.Runs.{Run, made, confirmed, given_up, none, next, written, asked_of}
+use Rattle.sender.specs.Runs.{Run, made, confirmed, given_up, none, next, OwnBuffer, written, asked_of}
 use Rattle.sender.proofs.Rounds.{sends_in_rounds, run_sent}
 use Rattle.sender.proofs.runs.short_run.Goals as goal
 
@@ -17,7 +17,12 @@ granted buffer target target' count g g' (Err e) pass d = absurd (cc (pass, d.0)
 -- a copy of nothing is refused, and leaves the passage as it is
 nothing : (buffer target target' : List ℕ) (g g' : Guard) (r : Result Unit PassageRefusal) → CopyDoes buffer target target' 0 g g' r → (g' ≡ g) × (written r 0 target' ≡ []) × (asked_of r 0 ≡ 0)
 nothing buffer target target' g g' (Ok x) d = absurd (cc d.0)
-nothing buffer target target' g g' (Err e) d = (d.1.1, refl, refl)
+nothing buffer target target' g g' (Err e) d = (d.2.1, refl, refl)
+
+-- each copy is handed the buffer itself
+own : (r : Result Unit PassageRefusal) (buffer : List ℕ) → OwnBuffer r buffer buffer
+own (Ok x) buffer = refl
+own (Err e) buffer = tt
 
 pub returns : goal.returns
 returns c =
@@ -35,7 +40,7 @@ returns c =
     let eight : h.octets ≡ 8 = ap (λ x. x.octets) (idle.0 ∙ begun) in
     let three : length target ≡ 3 = search rules in
     let full = granted buffer target target' 3 h h' c.copy-2.result (simp (eight, c.told-buffer, three)) c.copy-2.ensures.does in
-    let copies = next (next none c.args.kept.now target 0 h c.copy.result c.copy.ensures.does) target target' 3 h' c.copy-2.result c.copy-2.ensures.does in
+    let copies = next (next none buffer c.args.kept.now target 0 h c.copy.result c.copy.ensures.does (own _ _)) buffer target target' 3 h' c.copy-2.result c.copy-2.ensures.does (own _ _) in
     let wrote_is : written c.copy.result 0 target ++ written c.copy-2.result 3 target' ≡ target' = cc (idle.1, full.0, take_all 3 target' (search rules)) in
     let asked_is : 0 + (0 + asked_of c.copy.result 0 + asked_of c.copy-2.result 3) ≡ 3 = omega (arith, idle.2, full.1) in
     let cursor = c.confirm.new.self.0 in
@@ -43,7 +48,7 @@ returns c =
     -- what the second passage copies is given up
     let g' = held c.begin-second.result in
     let begun' : BeginDoes 1 4 cursor g' = cc (made_so.1.0, made_so.1.1, c.size-2.ensures, c.begin-second.ensures.does) in
-    let tried = next none (0 ∷ 0 ∷ []) c.copy-3.new.target 2 (held c.copy-3.new.self) c.copy-3.result c.copy-3.ensures.does in
+    let tried = next none buffer (0 ∷ 0 ∷ []) c.copy-3.new.target 2 (held c.copy-3.new.self) c.copy-3.result c.copy-3.ensures.does (own _ _) in
     let cursor' = c.give_up.new.self.0 in
     let run : Run 1 4 buffer cursor' target' 3 = given_up after begun' tried cursor' c.give_up.ensures in
     record {
