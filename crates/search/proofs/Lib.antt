@@ -6,6 +6,7 @@ pub mod Placing
 pub mod Words
 pub mod Settling
 pub mod Finish
+pub mod Fronts
 pub mod Traces
 pub mod Naming
 pub mod Growth

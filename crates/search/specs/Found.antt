@@ -2,7 +2,7 @@
 use Rattle.std.specs.Prelude.{◌≡◌, ℕ, ◌+◌, ◌*◌, ◌||◌, List, [], ◌∷◌, ◌++◌, length, drop, Decides, Option, Result, nat_lt}
 use Rattle.block.specs.Bits.{bits_of, filled}
 use Rattle.block.specs.Checks.{CheckFits}
-use Rattle.block.specs.Refusals.{Check, Performs, if_refuse}
+use Rattle.block.specs.Refusals.{Case, Check, Performs, if_refuse, numbered}
 use Rattle.block.specs.Sizes.{block_octets}
 use Rattle.code.specs.Register.{with_tail}
 use Rattle.weighing.specs.Scales.{Scale}
@@ -12,8 +12,9 @@ use Rattle.search.specs.declared.FindRefusal.{FindRefusal}
 use Rattle.search.specs.declared.FindRefusal.TheVariants.{Short}
 use Rattle.search.specs.declared.Found.{Found}
 
-abbrev pub find_number : FindRefusal → ℕ
-find_number Short = 6
+-- the case of the refusal of a search
+abbrev pub find_case : FindRefusal → Case
+find_case Short = numbered 6
 
 -- 6 where one of the four lent buffers is short: the tally, the target, the survivors or the path weights
 abbrev pub find_checks : ℕ → ℕ → ℕ → ℕ → ℕ → List Check
@@ -29,12 +30,16 @@ pub record Names {V : Type 0} (s : Scale V) (octets check : ℕ) (order : List �
   pub nearest : Nearest s order (block_octets octets check) sums (8 * octets + check) (bits_of after (8 * octets + check))
   pub verdict : Decides found.check_fits (CheckFits octets check (bits_of after (8 * octets + check)))
 
+-- A lent buffer of which the first k places are used: its length and what lies behind them stay.
+pub record UsesFront {A : Type 0} (k : ℕ) (before after : List A) : Type 0 where
+  pub long : length after ≡ length before
+  pub rest : drop k after ≡ drop k before
+
 -- What the search does. After a performed one the survivors and the path weights hold anything in the part used.
 abbrev pub FindDoes : {V : Type 0} (s : Scale V) → ℕ → ℕ → List ℕ → List (Entry V) → List ℕ → List ℕ → List ℕ → List ℕ → List (Option V) → List (Option V) → Result (Found V) FindRefusal → Type 0
 FindDoes s octets check order tally before after words words_after paths paths_after r =
-    Performs (find_checks (block_octets octets check) (length tally) (length before) (length words) (length paths)) find_number
+    Performs (find_checks (block_octets octets check) (length tally) (length before) (length words) (length paths)) find_case
     (λ found. Names s octets check order (entry_sums s tally) before after found
-    × (drop (8 * block_octets octets check) words_after ≡ drop (8 * block_octets octets check) words)
-    × (drop 32 paths_after ≡ drop 32 paths))
+    × UsesFront (8 * block_octets octets check) words words_after × UsesFront 32 paths paths_after)
     ((after ≡ before) × (words_after ≡ words) × (paths_after ≡ paths))
     r

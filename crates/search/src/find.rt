@@ -1,6 +1,6 @@
 // The search as a whole, over buffers that the caller lends.
 ghost use Rattle.std.specs.Prelude.{◌≡◌, ℕ, ◌+◌, ◌*◌, ◌≤◌, length};
-ghost use Rattle.search.specs.Found.{FindDoes, find_number};
+ghost use Rattle.search.specs.Found.{FindDoes, find_case};
 ghost use Rattle.search.specs.Weights.{entry_sums};
 ghost use Rattle.search.specs.Paths.{Traced};
 
@@ -13,7 +13,7 @@ use weighing::Weighing;
 
 impl FindRefusal {
     pub fn number(self) -> u8
-        ensures { result ≡ find_number self }
+        ensures { result ≡ (find_case self).number }
     {
         self as u8
     }

@@ -1,8 +1,10 @@
 use Rattle.std.proofs.Common.{◌≡◌, ◌+◌, ◌*◌, ◌++◌, length, drop, ap, sym, ◌∙◌, subst, arith}
 use Rattle.std.proofs.lemmas.Bool.Decides.{nat_tests}
-use Rattle.std.proofs.lemmas.List.{drop_at, length-take-le}
+use Rattle.std.proofs.lemmas.List.{length-take-le}
 use Rattle.block.specs.Bits.{filled}
+use Rattle.search.specs.Found.{UsesFront}
 use Rattle.search.specs.Weights.{entry_sums}
+use Rattle.search.proofs.Fronts.{front_of}
 use Rattle.search.proofs.Naming.{names_since}
 use Rattle.search.proofs.find.find_nearest.Goals as goal
 
@@ -27,7 +29,7 @@ returns g c =
         names_since s size.octets size.check c.args.order.now.columns (entry_sums s c.args.tally.now) c.args.target.now c.write_path.new.target kept
             (record { weight = c.run-weight.result; check_fits = c.check_fits.result }) n is whole steps
             (c.write_path.ensures ∙ ap (filled _) (length-take-le n c.args.target.now (omega arith))) traced c.check_fits.ensures,
-        subst (λ m. drop m (kept ++ drop (8 * n) c.args.survivors.now) ≡ drop m c.args.survivors.now) (ap (λ m. 8 * m) is) (drop_at kept (drop (8 * n) c.args.survivors.now) (8 * n) steps),
-        drop_at c.run-weight.new.paths (drop 32 c.args.paths.now) 32 halves,
+        subst (λ m. UsesFront m c.args.survivors.now (kept ++ drop (8 * n) c.args.survivors.now)) (ap (λ m. 8 * m) is) (front_of (8 * n) c.args.survivors.now kept steps (omega arith)),
+        front_of 32 c.args.paths.now c.run-weight.new.paths halves (omega arith),
       ),
     )
