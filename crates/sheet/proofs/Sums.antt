@@ -1,11 +1,13 @@
 -- The sums that entries mean, after a write and over a row of places. Assumes nothing.
-use Rattle.std.proofs.Common.{◌≡◌, ℕ, zero, suc, ◌*◌, ◌<◌, ◌≤◌, Bool, cond, eqb, List, [], ◌∷◌, ◌++◌, map, length, get_or, take, drop, set, Option, not-suc-le-zero, le_of_suc-le-suc, length-take-le, sym, ap, ◌∙◌, inl, inr, arith}
-use Rattle.std.proofs.lemmas.List.{get_or-map, get_or-set_other, get_or-set_same, get_or_append_left, drop_at, length-map, map-append, map-set, take-append-drop}
+use Rattle.std.proofs.Common.{◌≡◌, ℕ, zero, suc, ◌*◌, ◌<◌, ◌≤◌, Bool, cond, eqb, List, [], ◌∷◌, ◌++◌, map, length, get_or, take, drop, set, Option, not-suc-le-zero, le_of_suc-le-suc, length-take-le, subst, sym, ap, ◌∙◌, inl, inr, arith}
+use Rattle.std.proofs.lemmas.List.{get_or-map, get_or-set_other, get_or-set_same, get_or_append_left, length-map, map-append, map-set, take-append-drop}
 use Rattle.std.proofs.lemmas.Bool.{cases_eq, cond-false, cond-true, eq-eqb, ne_eqb}
 use Rattle.std.specs.List.{FoldsTo}
 use Rattle.weighing.specs.Scales.{Scale}
+use Rattle.search.specs.Found.{UsesFront}
 use Rattle.search.specs.Weights.{entry_sums, side}
 use Rattle.search.specs.declared.Entry.{Entry}
+use Rattle.search.proofs.Fronts.{front_of}
 use Rattle.sheet.specs.Books.{laid, sum_behind}
 use Rattle.sheet.specs.Calls.{Cleared, Laid}
 
@@ -55,13 +57,13 @@ module _ {V : Type 0} (s : Scale V) where
     many : length (take (32 * n) before) ≡ 32 * m
     many = length-take-le (32 * n) before whole ∙ ap (λ k. 32 * k) is
 
-    rest : drop (32 * m) after ≡ drop (32 * m) before
-    rest = drop_at front (drop (32 * n) before) (32 * m) (long ∙ many) ∙ ap (λ k. drop (32 * k) before) is
+    stays : UsesFront (32 * m) before after
+    stays = subst (λ k. UsesFront (32 * k) before after) is (front_of (32 * n) before front (long ∙ length-take-le (32 * n) before whole) whole)
 
     pub cleared_front : ((p : ℕ) (b : Bool) → p < length (take (32 * n) before) → entry_sums s front p b ≡ s.zero) → Cleared s m before after
     cleared_front zeros = record {
       zeros = λ p b h. sums_front front (drop (32 * n) before) p b (omega (arith, long, many)) ∙ zeros p b (omega (arith, many));
-      rest = rest;
+      front = stays;
     }
 
     pub laid_front : {A : Type 0} (reads : ℕ → Option A) (against : A → Bool → V) (start : ℕ) (octets : List ℕ)
@@ -73,5 +75,5 @@ module _ {V : Type 0} (s : Scale V) where
           sym (sums_front (take (32 * n) before) (drop (32 * n) before) p b (omega (arith, many))) ∙ ap (λ xs. entry_sums s xs p b) (take-append-drop (32 * n) before) in
           sums_front front (drop (32 * n) before) p b (omega (arith, long, many)) ∙ sums p b
           ∙ (λ i. sum_behind reads s against (own i) p b (laid reads (many i) (8 * start) octets));
-      rest = rest;
+      front = stays;
     }

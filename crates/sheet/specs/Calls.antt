@@ -1,11 +1,14 @@
 -- What each call of a sheet does, and which refuses what. N is the octets of a block. Assumes nothing.
-use Rattle.std.specs.Prelude.{◌≡◌, ℕ, ◌+◌, ◌*◌, ◌%◌, ◌<◌, Bool, not, ◌||◌, List, [], ◌∷◌, ◌++◌, length, drop, is_some, Some, None, Option, Result, MatchResult, ◌==◌, nat_le, nat_lt}
-use Rattle.block.specs.Refusals.{Check, Performs, first_refusal, if_refuse}
-use Rattle.block.specs.Sizes.{block_octets, size_checks, size_number}
+use Rattle.std.specs.Prelude.{◌≡◌, ℕ, ◌+◌, ◌*◌, ◌%◌, ◌<◌, Bool, not, ◌||◌, List, [], ◌∷◌, ◌++◌, length, is_some, Some, Option, Result, ◌==◌, nat_le, nat_lt}
+use Rattle.block.specs.Refusals.{Case, Check, Performs, if_refuse, numbered}
+use Rattle.block.specs.Sizes.{block_octets, size_case, size_checks}
 use Rattle.weighing.specs.Scales.{Scale}
 use Rattle.weighing.specs.declared.Weighing.{Ghosts}
+use Rattle.search.specs.Found.{FindDoes, UsesFront}
 use Rattle.search.specs.Weights.{entry_sums}
 use Rattle.search.specs.declared.Entry.{Entry}
+use Rattle.search.specs.declared.FindRefusal.{FindRefusal}
+use Rattle.search.specs.declared.Found.{Found}
 use Rattle.sheet.specs.Books.{laid, sum_behind, unlawful}
 use Rattle.sheet.specs.declared.Sheet.{Sheet}
 use Rattle.sheet.specs.declared.OpenRefusal.{OpenRefusal}
@@ -19,27 +22,21 @@ use Rattle.sheet.specs.declared.TakeRefusal.TheVariants.{Tally, Start, Count, Fu
 abbrev pub most_symbols : ℕ
 most_symbols = 1048576
 
-abbrev pub open_number : OpenRefusal → ℕ
-open_number (Size e) = size_number e
-open_number short_to_open = 6
+-- the cases of each refusal: of an opening's, a refusal for the size stands for what it stands for by itself
+abbrev pub open_case : OpenRefusal → Case
+open_case (Size e) = size_case e
+open_case short_to_open = numbered 6
 
-abbrev pub wipe_number : WipeRefusal → ℕ
-wipe_number short_to_wipe = 6
+abbrev pub wipe_case : WipeRefusal → Case
+wipe_case short_to_wipe = numbered 6
 
-abbrev pub take_number : TakeRefusal → ℕ
-take_number Tally = 6
-take_number Start = 7
-take_number Count = 8
-take_number Full = 10
-take_number (Symbol index) = 9
-
--- which values a refusal of a take may carry: the index of the first octet that reads as none
-abbrev pub TakeCarries : {A : Type 0} → (ℕ → Option A) → List ℕ → TakeRefusal → Type 0
-TakeCarries reads octets Tally = Unit {0}
-TakeCarries reads octets Start = Unit {0}
-TakeCarries reads octets Count = Unit {0}
-TakeCarries reads octets Full = Unit {0}
-TakeCarries reads octets (Symbol index) = unlawful reads octets ≡ Some index
+-- and of a take's, an octet that is no symbol carries its index, which is that of the first that reads as none
+abbrev pub take_case : Option ℕ → TakeRefusal → Case
+take_case first Tally = numbered 6
+take_case first Start = numbered 7
+take_case first Count = numbered 8
+take_case first Full = numbered 10
+take_case first (Symbol index) = record { number = 9; carries = first ≡ Some index }
 
 abbrev pub tally_short : ℕ → ℕ → Bool
 tally_short n tally = nat_lt tally (32 * n)
@@ -60,45 +57,58 @@ take_checks reads n tally count start octets =
     ∷ if_refuse (is_some (unlawful reads octets)) 9
     ∷ []
 
+-- N of a sheet: the octets of its block
+abbrev pub block_of : {W V : Type 0} {g : Ghosts W V} → Sheet W V g → ℕ
+block_of sheet = block_octets sheet.size.octets sheet.size.check
+
+-- the sheet before, but with this count
+pub record Counts {W V : Type 0} {g : Ghosts W V} (count : ℕ) (before after : Sheet W V g) : Type 0 where
+  pub size_stays : after.size ≡ before.size
+  pub order_stays : after.order ≡ before.order
+  pub count_is : after.count ≡ count
+
 module _ {V : Type 0} (s : Scale V) where
   -- the entries of a block's places mean zero against both bits, and those behind stay
   pub record Cleared (n : ℕ) (before after : List (Entry V)) : Type 0 where
     pub zeros : (p : ℕ) (b : Bool) → p < 32 * n → entry_sums s after p b ≡ s.zero
-    pub rest : drop (32 * n) after ≡ drop (32 * n) before
+    pub front : UsesFront (32 * n) before after
 
-  -- A sheet as it is opened: of the size and the order handed, with no symbol taken, and the entries of its places cleared.
-  pub record Opened {W : Type 0} {g : Ghosts W V} (octets check : ℕ) (order : List ℕ) (before after : List (Entry V)) (sheet : Sheet W V g) : Type 0 where
-    pub octets_are : sheet.size.octets ≡ octets
-    pub check_is : sheet.size.check ≡ check
-    pub order_is : sheet.order.columns ≡ order
-    pub none_taken : sheet.count ≡ 0
-    pub cleared : Cleared (block_octets octets check) before after
+  -- symbol i of a take goes to place (8 * start + i) mod (32 * N): behind what that place's entry holds against each
+  -- bit, the symbol's weight against it is added; the entries behind the block's places stay
+  pub record Laid {A : Type 0} (reads : ℕ → Option A) (against : A → Bool → V) (n start : ℕ) (octets : List ℕ) (before after : List (Entry V)) : Type 0 where
+    pub sums : (p : ℕ) (b : Bool) → p < 32 * n
+        → entry_sums s after p b ≡ sum_behind reads s against (entry_sums s before p b) p b (laid reads (32 * n) (8 * start) octets)
+    pub front : UsesFront (32 * n) before after
 
-  -- What open does.
-  abbrev pub OpenDoes : {W : Type 0} {g : Ghosts W V} → ℕ → ℕ → List ℕ → List (Entry V) → List (Entry V) → Result (Sheet W V g) OpenRefusal → Type 0
-  OpenDoes octets check order before after r =
-      Performs (open_checks octets check (length before)) open_number (Opened octets check order before after) (after ≡ before) r
+  module _ {W : Type 0} {g : Ghosts W V} where
+    -- A sheet as it is opened: of the size and the order handed, with no symbol taken, and the entries of its places cleared.
+    pub record Opened (octets check : ℕ) (order : List ℕ) (tally tally' : List (Entry V)) (sheet : Sheet W V g) : Type 0 where
+      pub octets_are : sheet.size.octets ≡ octets
+      pub check_is : sheet.size.check ≡ check
+      pub order_is : sheet.order.columns ≡ order
+      pub none_taken : sheet.count ≡ 0
+      pub cleared : Cleared (block_octets octets check) tally tally'
 
-  -- What wipe does: entries and count are set to zero.
-  abbrev pub WipeDoes : ℕ → ℕ → ℕ → List (Entry V) → List (Entry V) → Result (Unit {0}) WipeRefusal → Type 0
-  WipeDoes n count count_after before after r =
-      Performs (wipe_checks n (length before)) wipe_number
-      (λ _. Cleared n before after × (count_after ≡ 0))
-      ((after ≡ before) × (count_after ≡ count)) r
+    -- What open does.
+    abbrev pub OpenDoes : ℕ → ℕ → List ℕ → List (Entry V) → List (Entry V) → Result (Sheet W V g) OpenRefusal → Type 0
+    OpenDoes octets check order tally tally' r =
+        Performs (open_checks octets check (length tally)) open_case (Opened octets check order tally tally') (tally' ≡ tally) r
 
-  module _ {A : Type 0} (reads : ℕ → Option A) (against : A → Bool → V) where
-    -- symbol i of a take goes to place (8 * start + i) mod (32 * N): behind what that place's entry holds against each
-    -- bit, the symbol's weight against it is added; the entries behind the block's places stay
-    pub record Laid (n start : ℕ) (octets : List ℕ) (before after : List (Entry V)) : Type 0 where
-      pub sums : (p : ℕ) (b : Bool) → p < 32 * n
-          → entry_sums s after p b ≡ sum_behind reads s against (entry_sums s before p b) p b (laid reads (32 * n) (8 * start) octets)
-      pub rest : drop (32 * n) after ≡ drop (32 * n) before
+    -- What wipe does: entries and count are set to zero.
+    abbrev pub WipeDoes : Sheet W V g → Sheet W V g → List (Entry V) → List (Entry V) → Result (Unit {0}) WipeRefusal → Type 0
+    WipeDoes sheet sheet' tally tally' r =
+        Performs (wipe_checks (block_of sheet) (length tally)) wipe_case
+        (λ _. Counts 0 sheet sheet' × Cleared (block_of sheet) tally tally')
+        ((sheet' ≡ sheet) × (tally' ≡ tally)) r
 
     -- What take does. It answers how many symbols were taken since the opening or the last wipe.
-    abbrev pub TakeDoes : ℕ → ℕ → ℕ → List (Entry V) → List (Entry V) → ℕ → List ℕ → Result ℕ TakeRefusal → Type 0
-    TakeDoes n count count_after before after start octets r =
-        MatchResult r
-        (λ total. (first_refusal (take_checks reads n (length before) count start octets) ≡ None)
-        × (total ≡ count + length octets) × (count_after ≡ total) × Laid n start octets before after)
-        (λ e. (first_refusal (take_checks reads n (length before) count start octets) ≡ Some (take_number e))
-        × TakeCarries reads octets e × (after ≡ before) × (count_after ≡ count))
+    abbrev pub TakeDoes : {A : Type 0} → (ℕ → Option A) → (A → Bool → V) → Sheet W V g → Sheet W V g → List (Entry V) → List (Entry V) → ℕ → List ℕ → Result ℕ TakeRefusal → Type 0
+    TakeDoes reads against sheet sheet' tally tally' start octets r =
+        Performs (take_checks reads (block_of sheet) (length tally) sheet.count start octets) (take_case (unlawful reads octets))
+        (λ total. (total ≡ sheet.count + length octets) × Counts total sheet sheet' × Laid reads against (block_of sheet) start octets tally tally')
+        ((sheet' ≡ sheet) × (tally' ≡ tally)) r
+
+    -- What decode does: it finds the nearest message of the sheet's size and order. Sheet and tally are only read.
+    abbrev pub DecodeDoes : Sheet W V g → List (Entry V) → List ℕ → List ℕ → List ℕ → List ℕ → List (Option V) → List (Option V) → Result (Found V) FindRefusal → Type 0
+    DecodeDoes sheet tally target target' words words' paths paths' r =
+        FindDoes s sheet.size.octets sheet.size.check sheet.order.columns tally target target' words words' paths paths' r

@@ -1,7 +1,6 @@
 // Opening a sheet, and reading it.
 ghost use Rattle.std.specs.Prelude.{◌≡◌};
-ghost use Rattle.search.specs.Found.{FindDoes};
-ghost use Rattle.sheet.specs.Calls.{OpenDoes, open_number};
+ghost use Rattle.sheet.specs.Calls.{DecodeDoes, OpenDoes, open_case};
 
 use crate::entries::clear;
 use crate::{OpenRefusal, Sheet};
@@ -13,7 +12,7 @@ use weighing::Weighing;
 
 impl OpenRefusal {
     pub fn number(self) -> u8
-        ensures { result ≡ open_number self }
+        ensures { result ≡ (open_case self).number }
     {
         // A cast gives no number here, since a refusal for the size carries its own.
         match self {
@@ -77,7 +76,7 @@ impl<W: Weighing> Sheet<W> {
         survivors: &mut [u16],
         paths: &mut [Option<W::Value>],
     ) -> Result<Found<W::Value>, FindRefusal>
-        ensures { FindDoes W.scale self.now.size.octets self.now.size.check self.now.order.columns tally.now target.old target.new survivors.old survivors.new paths.old paths.new result }
+        ensures { DecodeDoes W.scale self.now tally.now target.old target.new survivors.old survivors.new paths.old paths.new result }
     {
         find_nearest::<W>(self.size, &self.order, tally, target, survivors, paths)
     }

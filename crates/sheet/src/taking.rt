@@ -1,7 +1,6 @@
 // Wiping a sheet, and taking symbols.
-ghost use Rattle.std.specs.Prelude.{◌≡◌};
-ghost use Rattle.block.specs.Sizes.{block_octets};
-ghost use Rattle.sheet.specs.Calls.{TakeDoes, WipeDoes, take_number, wipe_number};
+ghost use Rattle.std.specs.Prelude.{◌≡◌, ℕ, Option};
+ghost use Rattle.sheet.specs.Calls.{TakeDoes, WipeDoes, block_of, take_case, wipe_case};
 ghost use Rattle.sheet.specs.Laying.{Admits};
 
 use crate::entries::{clear, first_unlawful, lay};
@@ -14,7 +13,7 @@ const MOST_SYMBOLS: usize = 1048576;
 
 impl WipeRefusal {
     pub fn number(self) -> u8
-        ensures { result ≡ wipe_number self }
+        ensures { result ≡ (wipe_case self).number }
     {
         self as u8
     }
@@ -22,7 +21,7 @@ impl WipeRefusal {
 
 impl TakeRefusal {
     pub fn number(self) -> u8
-        ensures { result ≡ take_number self }
+        ensures { (first : Option ℕ) → result ≡ (take_case first self).number }
     {
         // A cast gives no number here, since the refusal of a symbol carries its index.
         match self {
@@ -38,9 +37,7 @@ impl TakeRefusal {
 impl<W: Weighing> Sheet<W> {
     // Forgets all that was taken: the entries of its places and the count are zero again.
     pub fn wipe(&mut self, tally: &mut [Entry<W::Value>]) -> Result<(), WipeRefusal>
-        ensures does { WipeDoes W.scale (block_octets self.old.size.octets self.old.size.check) self.old.count self.new.count tally.old tally.new result }
-        ensures size { self.new.size ≡ self.old.size }
-        ensures order { self.new.order ≡ self.old.order }
+        ensures { WipeDoes W.scale self.old self.new tally.old tally.new result }
     {
         let places = 32 * self.size.block_octets();
         if tally.len() < places {
@@ -55,7 +52,7 @@ impl<W: Weighing> Sheet<W> {
 impl<R: Reading> Sheet<R> {
     // Whether the sheet takes these octets, with a tally of so many entries. Nothing is written yet.
     fn admit(&self, entries: usize, start: usize, octets: &[u8]) -> Result<(), TakeRefusal>
-        ensures { Admits R.Reading.reads (block_octets self.now.size.octets self.now.size.check) entries self.now.count start octets.now result }
+        ensures { Admits R.Reading.reads (block_of self.now) entries self.now.count start octets.now result }
     {
         let n = self.size.block_octets();
         if entries < 32 * n {
@@ -81,9 +78,7 @@ impl<R: Reading> Sheet<R> {
         start: usize,
         octets: &[u8],
     ) -> Result<usize, TakeRefusal>
-        ensures does { TakeDoes R.Weighing.scale R.Reading.reads R.Reading.against (block_octets self.old.size.octets self.old.size.check) self.old.count self.new.count tally.old tally.new start octets.now result }
-        ensures size { self.new.size ≡ self.old.size }
-        ensures order { self.new.order ≡ self.old.order }
+        ensures { TakeDoes R.Weighing.scale R.Reading.reads R.Reading.against self.old self.new tally.old tally.new start octets.now result }
     {
         self.admit(tally.len(), start, octets)?;
         let places = 32 * self.size.block_octets();
