@@ -1,5 +1,5 @@
 -- An undamaged first payload decodes to what was sent. Assumes nothing.
-use Rattle.std.specs.Prelude.{◌≡◌, ℕ, ◌+◌, ◌*◌, ◌≤◌, List, map, length, Ok, Option}
+use Rattle.std.specs.Prelude.{◌≡◌, ℕ, ◌+◌, ◌*◌, ◌≤◌, true, List, map, length, Ok, Option, Result, MatchResult}
 use Rattle.block.specs.Bits.{bits_of, value}
 use Rattle.block.specs.Checks.{report_message}
 use Rattle.block.specs.Sizes.{block_octets, payload}
@@ -7,25 +7,34 @@ use Rattle.code.specs.Refused.{EncodeDoes}
 use Rattle.weighing.specs.Hard.{hard_reads, hard_weight}
 use Rattle.weighing.specs.Scales.{counted}
 use Rattle.weighing.specs.declared.Weighing.{Ghosts}
-use Rattle.search.specs.Found.{FindDoes}
 use Rattle.search.specs.declared.Entry.{Entry}
+use Rattle.search.specs.declared.FindRefusal.{FindRefusal}
 use Rattle.search.specs.declared.Found.{Found}
-use Rattle.sheet.specs.Calls.{OpenDoes, TakeDoes}
+use Rattle.sheet.specs.Calls.{DecodeDoes, OpenDoes, TakeDoes}
 use Rattle.sheet.specs.declared.Sheet.{Sheet}
+use Rattle.sheet.specs.declared.TakeRefusal.{TakeRefusal}
 
 -- each bit of the first octets of a buffer as one hard symbol, 0 or 1
 abbrev pub heard : List ℕ → ℕ → List ℕ
 heard buffer octets = map value (bits_of buffer (8 * octets))
 
+-- A decode that is performed, and names a report's message with weight 0 and a check that fits.
+abbrev pub NamesSent : List ℕ → ℕ → List ℕ → Result (Found ℕ) FindRefusal → Type 0
+NamesSent report check target r =
+    MatchResult r
+    (λ found. (bits_of target (8 * length report + check) ≡ report_message report (length report) check) × (found.weight ≡ 0) × (found.check_fits ≡ true))
+    (λ e. ⊥)
+
 -- A report is encoded; its first payload at any rate is taken by the hard reading, from octet 0, onto a new sheet of its
--- size and order; then each performed decode names the message sent, with weight 0.
+-- size and order. Then the take is performed, and each decode that is lent room enough names the message sent.
 abbrev pub DecodesWhatWasSent : (W : Type 0) → Ghosts W ℕ → Type 0
 DecodesWhatWasSent W g =
     (report : List ℕ) (check k : ℕ) (order before buffer : List ℕ) → k ≤ 24
     → EncodeDoes report check order before buffer (Ok tt)
-    → (tally opened taken : List (Entry ℕ)) (sheet : Sheet W ℕ g) → OpenDoes counted (length report) check order tally opened (Ok sheet)
-    → (count total : ℕ)
-    → TakeDoes counted hard_reads hard_weight (block_octets (length report) check) sheet.count count opened taken 0 (heard buffer (payload (length report) check k)) (Ok total)
-    → (target target' words words' : List ℕ) (paths paths' : List (Option ℕ)) (found : Found ℕ)
-    → FindDoes counted (length report) check order taken target target' words words' paths paths' (Ok found)
-    → (bits_of target' (8 * length report + check) ≡ report_message report (length report) check) × (found.weight ≡ 0)
+    → (tally opened taken : List (Entry ℕ)) (new_sheet sheet : Sheet W ℕ g) (r : Result ℕ TakeRefusal)
+    → OpenDoes counted (length report) check order tally opened (Ok new_sheet)
+    → TakeDoes counted hard_reads hard_weight new_sheet sheet opened taken 0 (heard buffer (payload (length report) check k)) r
+    → (r ≡ Ok (8 * payload (length report) check k))
+    × ((target target' words words' : List ℕ) (paths paths' : List (Option ℕ)) (found : Result (Found ℕ) FindRefusal)
+    → block_octets (length report) check ≤ length target → 8 * block_octets (length report) check ≤ length words → 32 ≤ length paths
+    → DecodeDoes counted sheet taken target target' words words' paths paths' found → NamesSent report check target' found)

@@ -1,0 +1,83 @@
+-- A report of one octet that comes back undamaged. Assumes nothing.
+use Rattle.std.proofs.Common.{◌≡◌, ℕ, ◌+◌, ◌*◌, ◌/◌, ◌%◌, ◌<◌, ◌≤◌, Bool, true, false, eqb, List, [], ◌∷◌, ◌++◌, get_or, drop, length, Ok, Err, None, Option, Result, MatchResult, refl, ap, ◌∙◌, subst, arith, rules}
+use Rattle.std.proofs.lemmas.List.{get_or_append_left}
+use Rattle.std.proofs.lemmas.List.FromFn.{get_or-map-range_with_len, length-map-range_with_len}
+use Rattle.std.proofs.lemmas.Bool.{eqb-true}
+use Rattle.block.specs.Bits.{bit, bit_at, bits_of, filled, octet_of}
+use Rattle.block.specs.Checks.{report_bit, report_message}
+use Rattle.block.specs.Refusals.{first_refusal}
+use Rattle.block.specs.Sizes.{payload, plan_checks}
+use Rattle.block.proofs.Computed.{below}
+use Rattle.block.proofs.Laws.{octet_same}
+use Rattle.code.specs.Refused.{EncodeDoes}
+use Rattle.code.specs.Register.{after, cleared, tail, with_tail}
+use Rattle.weighing.specs.Hard.{hard_reads, hard_weight}
+use Rattle.weighing.specs.Scales.{counted}
+use Rattle.weighing.specs.declared.Weighing.{Ghosts}
+use Rattle.search.specs.Found.{FindDoes}
+use Rattle.search.specs.declared.Entry.{Entry}
+use Rattle.search.specs.declared.FindRefusal.{FindRefusal}
+use Rattle.search.specs.declared.Found.{Found}
+use Rattle.sheet.specs.Calls.{TakeDoes}
+use Rattle.sheet.specs.declared.Sheet.{Sheet}
+use Rattle.sheet.specs.declared.TakeRefusal.{TakeRefusal}
+use Rattle.nearest.specs.Runs.{ThreeCalls}
+use Rattle.nearest.specs.Undamaged.{NamesSent, heard}
+use Rattle.nearest.proofs.Fitting.{own_bit}
+use Rattle.nearest.proofs.Sent.{decodes_what_was_sent}
+use Rattle.nearest.proofs.Taken.{at_opening}
+
+-- an octet is made of its own bits
+octet_bits : (x : ℕ) → x < 256 → octet_of (λ i. bit i x) ≡ x
+unfolding octet_of
+octet_bits x h = eqb-true _ x (below 256 (λ y. eqb (octet_of (λ i. bit i y)) y) refl x h)
+
+-- bit i of a report of one octet
+first_bit : (x i : ℕ) → i < 8 → get_or (report_message (x ∷ []) 1 4) i false ≡ bit i x
+unfolding bit_at
+first_bit x i h =
+    let low : i % 8 ≡ i = omega arith in
+    let first : i / 8 ≡ 0 = omega arith in
+    get_or-map-range_with_len (report_bit (x ∷ []) 1 4) 0 12 i i false (omega arith) (omega arith)
+    ∙ own_bit (x ∷ []) 1 4 i h
+    ∙ (λ j. bit (low j) (get_or (x ∷ []) (first j) 0))
+
+-- so the first octet that is written for its message is its own
+own_octet : (x : ℕ) → x < 256 → (target target' : List ℕ) (mine : List Bool) → length mine ≡ 12 → mine ≡ report_message (x ∷ []) 1 4
+    → target' ≡ filled (with_tail mine) 2 ++ drop 2 target → get_or target' 0 0 ≡ x
+own_octet x small target target' mine long is written =
+    ap (λ xs. get_or xs 0 0) written
+    ∙ octet_same _ (λ i. bit i x)
+    (λ i h. let at : 8 * 0 + i ≡ i = omega arith in
+    ap (λ p. get_or (with_tail mine) p false) at
+    ∙ get_or_append_left mine (tail (after cleared mine)) false i (omega arith)
+    ∙ ap (λ xs. get_or xs i false) is ∙ first_bit x i h)
+    ∙ octet_bits x small
+
+-- where a plan is not refused, the rate is permitted
+pub rate_of : (octets check k : ℕ) → first_refusal (plan_checks octets check k) ≡ None → k ≤ 24
+rate_of octets check k e = search rules
+
+-- what comes back: the octet that was sent, with weight 0 and a check that fits
+abbrev pub Echoes : ℕ → List ℕ → Result (Found ℕ) FindRefusal → Type 0
+Echoes x target answer = MatchResult answer (λ found. (get_or target 0 0 ≡ x) × (found.weight ≡ 0) × (found.check_fits ≡ true)) (λ e. ⊥)
+
+-- what is named, by the octet that is written for it
+echo_named : (x : ℕ) → x < 256 → (order : List ℕ) (tally : List (Entry ℕ)) (target target' words words' : List ℕ) (paths paths' : List (Option ℕ)) (answer : Result (Found ℕ) FindRefusal)
+    → FindDoes counted 1 4 order tally target target' words words' paths paths' answer → NamesSent (x ∷ []) 4 target' answer → Echoes x target' answer
+echo_named x small order tally target target' words words' paths paths' (Ok found) find sent =
+    (own_octet x small target target' (bits_of target' 12) (length-map-range_with_len (bit_at target') 0 12) sent.0 find.1.0.written, sent.1, sent.2)
+echo_named x small order tally target target' words words' paths paths' (Err e) find sent = sent
+
+pub echoes : {W : Type 0} {g : Ghosts W ℕ} (x k : ℕ) → x < 256 → k ≤ 24 → (order columns before buffer symbols : List ℕ) → columns ≡ order
+    → EncodeDoes (x ∷ []) 4 columns before buffer (Ok tt) → symbols ≡ heard buffer (payload 1 4 k)
+    → (tally tally' : List (Entry ℕ)) (target target' words words' : List ℕ) (paths paths' : List (Option ℕ)) (sheet : Sheet W ℕ g) (taken : Result ℕ TakeRefusal) (answer : Result (Found ℕ) FindRefusal)
+    → 2 ≤ length target → 16 ≤ length words → 32 ≤ length paths
+    → ThreeCalls W g counted hard_reads hard_weight 1 4 order 0 symbols tally tally' target target' words words' paths paths' sheet taken answer → Echoes x target' answer
+echoes {W} {g} x k small rate order columns before buffer symbols same encode heard_so tally tally' target target' words words' paths paths' sheet taken answer a b c run =
+    let encoded = subst (λ cs. EncodeDoes (x ∷ []) 4 cs before buffer (Ok tt)) same encode in
+    let taking = subst (λ xs. TakeDoes counted hard_reads hard_weight run.new_sheet sheet run.between tally' 0 xs taken) heard_so run.taking in
+    let sent =
+    (decodes_what_was_sent W g (x ∷ []) 4 k order before buffer rate encoded tally run.between tally' run.new_sheet sheet taken run.opening taking).1 target target' words words' paths paths' answer a b c run.decoding in
+    echo_named x small order tally' target target' words words' paths paths' answer
+    (at_opening 1 4 order tally run.between tally' run.new_sheet sheet 0 symbols taken run.opening run.taking target target' words words' paths paths' answer run.decoding) sent
