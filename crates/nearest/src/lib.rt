@@ -2,6 +2,8 @@
 #![tactic(auto)]
 
 mod runs;
+#[cfg(test)]
+mod tests;
 mod undamaged;
 
 pub use runs::nearest_message;
