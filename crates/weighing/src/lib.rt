@@ -1,7 +1,7 @@
 // Weighings say how weights add and compare. Readings weigh received symbols against bits.
 #![tactic(auto)]
 
-ghost use Rattle.std.specs.Prelude.{◌≡◌, ℕ, Bool, ◌⊎◌, Decides, Option};
+ghost use Rattle.std.specs.Prelude.{◌≡◌, ℕ, Bool, Decides, Option};
 ghost use Rattle.weighing.specs.Scales.{Scale};
 
 pub mod hard;
@@ -45,14 +45,4 @@ pub trait Reading: Weighing {
 
     fn cost(symbol: Self::Symbol, bit: bool) -> Self::Value
         ensures { Self.Weighing.scale.mean result ≡ Self.Weighing.scale.mean (against symbol bit) };
-}
-
-// The lighter of two weights, and the first if they weigh the same.
-pub fn lighter<W: Weighing>(a: W::Value, b: W::Value) -> W::Value
-    ensures either { (result ≡ a) ⊎ (result ≡ b) }
-    ensures first { W.scale.atmost (W.scale.mean a) (W.scale.mean b) → result ≡ a }
-    ensures below_a { W.scale.atmost (W.scale.mean result) (W.scale.mean a) }
-    ensures below_b { W.scale.atmost (W.scale.mean result) (W.scale.mean b) }
-{
-    if W::at_most(a, b) { a } else { b }
 }

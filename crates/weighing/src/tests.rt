@@ -2,7 +2,7 @@ use crate::hard::{Hard, HardSymbol};
 use crate::level::Level;
 use crate::soft::Soft;
 use crate::worst::Worst;
-use crate::{Reading, Weighing, lighter};
+use crate::{Reading, Weighing};
 
 #[test]
 fn hard_reads(rt: HostRuntime) {
@@ -42,5 +42,4 @@ fn soft_weighs(rt: HostRuntime) {
 fn worst_takes_the_larger(rt: HostRuntime) {
     assert_eq!(rt; Worst::sum(4, 9), 9);
     assert_eq!(rt; Worst::cost(Level { value: -20 }, true), 20);
-    assert_eq!(rt; lighter::<Worst>(4, 9), 4);
 }
