@@ -30,6 +30,13 @@ pub struct Sender {
     pub cursor: usize,
 }
 
+// What a short run leaves: the sender, and what its refused copy answered.
+#[derive(Debug, PartialEq, Drop)]
+pub struct ShortRun {
+    pub sender: Sender,
+    pub refused: Result<(), PassageRefusal>,
+}
+
 // A piece that is being sent: a guard over a sender's cursor. Its end puts the cursor back, unless it was confirmed.
 pub struct Passage<'a> {
     cursor: &'a mut usize,

@@ -1,24 +1,26 @@
 // A short run of a sender by the calls themselves.
-ghost use Rattle.std.specs.Prelude.{◌≡◌};
+ghost use Rattle.std.specs.Prelude.{◌≡◌, Err};
 ghost use Rattle.sender.specs.Passages.{sent};
 ghost use Rattle.sender.specs.Runs.{Run};
+ghost use Rattle.sender.specs.declared.PassageRefusal.TheVariants.{Count};
 
-use crate::{Passage, Sender};
+use crate::{Passage, Sender, ShortRun};
 
-// Three octets that are confirmed, after a copy of none that is refused; then two that are given up.
-pub fn short_run(buffer: &[u8; 8], kept: &mut [u8; 3]) -> Sender
-    ensures run { Run 1 4 buffer.now result.cursor kept.new 3 }
+// A copy of no octet is refused, and three octets are then copied and confirmed; two more are copied and given up.
+pub fn short_run(buffer: &[u8; 8], kept: &mut [u8; 3], given_up: &mut [u8; 2]) -> ShortRun
+    ensures run { Run 1 4 buffer.now result.sender.cursor kept.new 3 }
+    ensures refused { result.refused ≡ Err Count }
     ensures kept { kept.new ≡ sent buffer.now 8 0 3 }
-    ensures sender { (result.size.octets ≡ 1) × (result.size.check ≡ 4) × (result.cursor ≡ 3) }
+    ensures given_up { given_up.new ≡ sent buffer.now 8 3 2 }
+    ensures sender { (result.sender.size.octets ≡ 1) × (result.sender.size.check ≡ 4) × (result.sender.cursor ≡ 3) }
 {
     let mut sender = Sender::new(1, 4).unwrap();
     let mut first = Passage::begin(sender.size(), &mut sender.cursor);
-    let _ = first.copy(buffer, kept, 0);
-    let _ = first.copy(buffer, kept, 3);
+    let refused = first.copy(buffer, kept, 0);
+    first.copy(buffer, kept, 3).unwrap();
     first.confirm();
-    let mut lost = [0; 2];
     let mut second = Passage::begin(sender.size(), &mut sender.cursor);
-    let _ = second.copy(buffer, &mut lost, 2);
+    second.copy(buffer, given_up, 2).unwrap();
     second.give_up();
-    sender
+    ShortRun { sender, refused }
 }

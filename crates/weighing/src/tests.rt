@@ -42,4 +42,5 @@ fn soft_weighs(rt: HostRuntime) {
 fn worst_takes_the_larger(rt: HostRuntime) {
     assert_eq!(rt; Worst::sum(4, 9), 9);
     assert_eq!(rt; Worst::cost(Level { value: -20 }, true), 20);
+    assert_eq!(rt; Worst::at_most(9, 4), false);
 }

@@ -1,23 +1,17 @@
-use Rattle.std.proofs.Common.{◌≡◌, ℕ, ◌+◌, List, [], ◌∷◌, ◌++◌, length, take, None, Ok, Err, Result, refl, ap, ◌∙◌, arith, rules}
-use Rattle.std.proofs.lemmas.List.{take_all}
-use Rattle.block.specs.Refusals.{first_refusal}
+use Rattle.std.proofs.Common.{◌≡◌, ℕ, ◌+◌, List, ◌++◌, Ok, Err, Result, refl, ap, ◌∙◌, rules}
+use Rattle.std.proofs.lemmas.List.{drop_all, take_all}
 use Rattle.sender.specs.declared.PassageRefusal.{PassageRefusal}
-use Rattle.sender.specs.Passages.{Guard, NewDoes, BeginDoes, CopyDoes, held, copy_checks}
+use Rattle.sender.specs.declared.PassageRefusal.TheVariants.{Count, Short}
+use Rattle.sender.specs.Passages.{Guard, NewDoes, BeginDoes, CopyDoes, held, passing}
 use Rattle.sender.specs.Runs.{Run, made, confirmed, given_up, none, next, OwnBuffer, written, asked_of}
 use Rattle.sender.proofs.Rounds.{sends_in_rounds, run_sent}
 use Rattle.sender.proofs.runs.short_run.Goals as goal
 
--- a copy that no check refuses is performed
-granted : (buffer target target' : List ℕ) (count : ℕ) (g g' : Guard) (r : Result Unit PassageRefusal)
-    → first_refusal (copy_checks g.octets (length buffer) (length target) count) ≡ None → CopyDoes buffer target target' count g g' r
-    → (written r count target' ≡ take count target') × (asked_of r count ≡ count)
-granted buffer target target' count g g' (Ok x) pass d = (refl, refl)
-granted buffer target target' count g g' (Err e) pass d = absurd (cc (pass, d.0))
-
--- a copy of nothing is refused, and leaves the passage as it is
-nothing : (buffer target target' : List ℕ) (g g' : Guard) (r : Result Unit PassageRefusal) → CopyDoes buffer target target' 0 g g' r → (g' ≡ g) × (written r 0 target' ≡ []) × (asked_of r 0 ≡ 0)
+-- a copy of nothing is refused for its count, and leaves the passage as it is
+nothing : (buffer target target' : List ℕ) (g g' : Guard) (r : Result Unit PassageRefusal) → CopyDoes buffer target target' 0 g g' r → (r ≡ Err Count) × (g' ≡ g) × (target' ≡ target)
 nothing buffer target target' g g' (Ok x) d = absurd (cc d.0)
-nothing buffer target target' g g' (Err e) d = (d.2.1, refl, refl)
+nothing buffer target target' g g' (Err Count) d = (refl, d.2.1, d.2.0)
+nothing buffer target target' g g' (Err Short) d = absurd (cc d.0)
 
 -- each copy is handed the buffer itself
 own : (r : Result Unit PassageRefusal) (buffer : List ℕ) → OwnBuffer r buffer buffer
@@ -30,29 +24,31 @@ returns c =
     let buffer = c.args.buffer.now in
     let made_so : NewDoes 1 4 (Ok s) = rw c.unwrap-sender.ensures at c.new.ensures in
     let g = held c.begin-first.result in
-    let h = held c.copy.new.self in
-    let h' = held c.copy-2.new.self in
+    let h = held c.copy-refused.new.self in
+    let h' = held c.copy.new.self in
     let begun : BeginDoes 1 4 s.cursor g = cc (made_so.1.0, made_so.1.1, c.size.ensures, c.begin-first.ensures.does) in
     -- the first copy is refused and the second performed
-    let target = c.copy.new.target in
-    let target' = c.copy-2.new.target in
-    let idle = nothing buffer c.args.kept.now target g h c.copy.result c.copy.ensures.does in
-    let eight : h.octets ≡ 8 = ap (λ x. x.octets) (idle.0 ∙ begun) in
-    let three : length target ≡ 3 = search rules in
-    let full = granted buffer target target' 3 h h' c.copy-2.result (simp (eight, c.told-buffer, three)) c.copy-2.ensures.does in
-    let copies = next (next none buffer c.args.kept.now target 0 h c.copy.result c.copy.ensures.does (own _ _)) buffer target target' 3 h' c.copy-2.result c.copy-2.ensures.does (own _ _) in
-    let wrote_is : written c.copy.result 0 target ++ written c.copy-2.result 3 target' ≡ target' = cc (idle.1, full.0, take_all 3 target' (search rules)) in
-    let asked_is : 0 + (0 + asked_of c.copy.result 0 + asked_of c.copy-2.result 3) ≡ 3 = omega (arith, idle.2, full.1) in
+    let target = c.copy-refused.new.target in
+    let target' = c.copy.new.target in
+    let idle = nothing buffer c.args.kept.now target g h c.copy-refused.result c.copy-refused.ensures.does in
+    let copies = next (next none buffer c.args.kept.now target 0 h c.copy-refused.result c.copy-refused.ensures.does (own _ _)) buffer target target' 3 h' c.copy.result c.copy.ensures.does (own _ _) in
+    let wrote_is : written c.copy-refused.result 0 target ++ written c.copy.result 3 target' ≡ target' = cc (idle.0, c.unwrap.ensures, take_all 3 target' (search rules)) in
+    let asked_is : 0 + (0 + asked_of c.copy-refused.result 0 + asked_of c.copy.result 3) ≡ 3 = simp (idle.0, c.unwrap.ensures) in
     let cursor = c.confirm.new.self.0 in
     let after : Run 1 4 buffer cursor target' 3 = simp (wrote_is, asked_is) at (confirmed (made s made_so) begun copies cursor c.confirm.ensures) in
     -- what the second passage copies is given up
     let g' = held c.begin-second.result in
     let begun' : BeginDoes 1 4 cursor g' = cc (made_so.1.0, made_so.1.1, c.size-2.ensures, c.begin-second.ensures.does) in
-    let tried = next none buffer (0 ∷ 0 ∷ []) c.copy-3.new.target 2 (held c.copy-3.new.self) c.copy-3.result c.copy-3.ensures.does (own _ _) in
+    let tried = next none buffer c.args.given_up.now c.copy-2.new.target 2 (held c.copy-2.new.self) c.copy-2.result c.copy-2.ensures.does (own _ _) in
     let cursor' = c.give_up.new.self.0 in
+    let stands : cursor ≡ 3 = (sends_in_rounds 1 4 buffer cursor target' 3 after).stands in
+    let lost = (rw c.unwrap-2.ensures at c.copy-2.ensures.does).1.0 in
+    let at : g' ≡ passing 1 4 3 3 = begun' ∙ ap (λ k. passing 1 4 k k) stands in
     let run : Run 1 4 buffer cursor' target' 3 = given_up after begun' tried cursor' c.give_up.ensures in
     record {
       run = run;
+      refused = idle.0;
       kept = run_sent 1 4 buffer cursor' target' 3 run;
+      given_up = rw (ap (λ x. x.cursor) at, ap (λ x. x.octets) at, drop_all 2 c.args.given_up.now (search rules)) at lost;
       sender = (made_so.1.0, made_so.1.1, (sends_in_rounds 1 4 buffer cursor' target' 3 run).stands);
     }
