@@ -23,7 +23,7 @@ extended check r b = reduced check (bit_xor (2 * r) (cond b (2 ^ check) 0))
 abbrev pub check_of : ℕ → List Bool → ℕ
 check_of check bits = fold (extended check) 0 bits
 
--- term i of a check field of L bits, in the order of coding: the highest term of the polynomial first
+-- term i of a check field of L bits, in the order of coding: the highest term of the check first
 abbrev pub term : ℕ → ℕ → ℕ → Bool
 term check field i = bit (check - 1 - i) field
 

@@ -32,6 +32,6 @@ Performs checks case_of Done Kept r =
     MatchResult r (λ x. (first_refusal checks ≡ None) × Done x)
     (λ e. (first_refusal checks ≡ Some (case_of e).number) × (case_of e).carries × Kept)
 
--- such a call that has nothing to leave
+-- such a call that is lent nothing which a refusal must leave as it was
 abbrev pub Answers : {A E : Type 0} → List Check → (E → Case) → (A → Type 0) → Result A E → Type 0
 Answers checks case_of Done r = Performs checks case_of Done (Unit {0}) r

@@ -1,4 +1,4 @@
--- Sizes of a block, by the message's octets T and the check's length L in bits. Assumes nothing.
+-- Sizes of a block, by the report's octets T and the check's length L in bits. Assumes nothing.
 use Rattle.std.specs.Prelude.{◌≡◌, ℕ, zero, suc, ◌+◌, ◌*◌, ◌/◌, Bool, true, false, not, ◌||◌, List, [], ◌∷◌, ◌++◌, ◌==◌, nat_lt}
 use Rattle.block.specs.Refusals.{Case, Check, if_refuse, numbered}
 use Rattle.block.specs.declared.SizeRefusal.{SizeRefusal}
@@ -6,7 +6,7 @@ use Rattle.block.specs.declared.SizeRefusal.TheVariants.{Octets, CheckLength}
 use Rattle.block.specs.declared.PlanRefusal.{PlanRefusal}
 use Rattle.block.specs.declared.PlanRefusal.TheVariants.{Size, Rate, Length}
 
--- a message has 1 to 512 octets
+-- a report has 1 to 512 octets
 abbrev pub octets_permitted : ℕ → Bool
 octets_permitted octets = not (octets == 0 || nat_lt 512 octets)
 
@@ -18,7 +18,7 @@ check_permitted check = check == 4 || (check == 12 || (check == 20 || check == 2
 abbrev pub rate_permitted : ℕ → Bool
 rate_permitted k = not (nat_lt 24 k)
 
--- N: the octets of a block, which are the message's and those of check and tail
+-- N: the octets of a block, which are the report's and those of check and tail
 abbrev pub block_octets : ℕ → ℕ → ℕ
 block_octets octets check = octets + (check + 4) / 8
 

@@ -1,4 +1,4 @@
-// The check field: the remainder of the message's bits, times x^L, by the polynomial of the check's length L.
+// The check field: the remainder of the report's bits, times x^L, by the polynomial of the check's length L.
 ghost use Rattle.std.specs.Prelude.{◌≡◌, ◌+◌, ◌*◌, ◌^◌, ◌<◌, length, if◌then◌else◌, Decides};
 ghost use Rattle.block.specs.Bits.{bits_of};
 ghost use Rattle.block.specs.Checks.{CheckFits, check_of, extended, polynomial, reduced};
@@ -45,7 +45,7 @@ impl Size {
         self.reduce((2 * r) ^ self.incoming(bit))
     }
 
-    // The check of the message that stands at the front of `octets`; what is missing there counts as 0.
+    // The check of the report that stands at the front of `octets`; what is missing there counts as 0.
     pub fn check_over(self, octets: &[u8]) -> u32
         ensures { result ≡ check_of self.check (bits_of octets.now (8 * self.octets)) }
     {
@@ -57,7 +57,7 @@ impl Size {
         r
     }
 
-    // Whether the check behind the message at the front of `octets` is that message's own.
+    // Whether the check behind the report at the front of `octets` is that report's own.
     pub fn check_fits(self, octets: &[u8]) -> bool
         ensures { Decides result (CheckFits self.octets self.check (bits_of octets.now (8 * self.octets + self.check))) }
     {
@@ -68,7 +68,7 @@ impl Size {
     }
 }
 
-// The check field of a message: bit j is the coefficient of x^j.
+// The check field of a report: bit j is the coefficient of x^j.
 pub fn check_field(octets: &[u8], check: usize) -> Result<u32, SizeRefusal>
     ensures { Answers (size_checks (length octets.now) check) size_case (λ f. f ≡ check_of check (bits_of octets.now (8 * length octets.now))) result }
 {

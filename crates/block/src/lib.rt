@@ -22,7 +22,7 @@ pub enum SizeRefusal {
     CheckLength = 2,
 }
 
-// Why no payload length, or no message length, can be answered.
+// Why no payload length, or no report length, can be answered.
 #[derive(Clone, Copy, Debug, PartialEq, Error)]
 pub enum PlanRefusal {
     #[error("{0}")]
@@ -31,11 +31,11 @@ pub enum PlanRefusal {
     #[error("a rate sends at most 24 further columns")]
     Rate,
     // 5
-    #[error("no message length has this payload length")]
+    #[error("no report length has this payload length")]
     Length,
 }
 
-// A permitted size: the message's octets and the check's length in bits. The length is a number and no enum, since all but
+// A permitted size: the report's octets and the check's length in bits. The length is a number and no enum, since all but
 // the polynomial reckon with it.
 #[derive(Clone, Copy, Debug, PartialEq)]
 pub struct Size {

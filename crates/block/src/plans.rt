@@ -1,4 +1,4 @@
-// From a message's octets to those of its first payload, and back.
+// From a report's octets to those of its first payload, and back.
 ghost use Rattle.std.specs.Prelude.{◌≡◌, ◌≤◌, true, false, MatchOption};
 ghost use Rattle.block.specs.Refusals.{Answers};
 ghost use Rattle.block.specs.Sizes.{payload, check_permitted, some_size, plan_checks, plan_case, back_checks, OnlySize};
@@ -41,7 +41,7 @@ pub fn plan(octets: usize, check: usize, k: usize) -> Result<usize, PlanRefusal>
     Ok(size.payload_at(k))
 }
 
-// The message length from 1 to 512 whose first payload has `p` octets. Each is asked by `Size::new`, since a closure that makes
+// The report's length from 1 to 512 whose first payload has `p` octets. Each is asked by `Size::new`, since a closure that makes
 // a size itself would have to be told its bounds.
 fn octets_for(p: usize, check: usize, k: usize) -> Option<usize>
     requires { (check_permitted check ≡ true) × (k ≤ 24) }

@@ -32,7 +32,7 @@ impl Size {
         Ok(Size { octets, check })
     }
 
-    // T: the octets of the message.
+    // T: the octets of the report.
     pub fn octets(self) -> usize
         ensures { result ≡ self.octets }
     {
@@ -46,7 +46,7 @@ impl Size {
         self.check
     }
 
-    // N: the octets of message, check and tail together.
+    // N: the octets of report, check and tail together.
     pub fn block_octets(self) -> usize
         ensures { result ≡ block_octets self.octets self.check }
     {

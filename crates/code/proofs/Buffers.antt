@@ -3,7 +3,7 @@ use Rattle.std.proofs.Common.{◌≡◌, ℕ, ◌*◌, List, ◌++◌, length, d
 use Rattle.block.specs.Checks.{report_message}
 use Rattle.block.specs.Sizes.{block_octets}
 use Rattle.code.specs.Places.{buffer_of}
-use Rattle.code.specs.Refused.{encoded}
+use Rattle.code.specs.Calls.{encoded}
 use Rattle.code.specs.Register.{coded}
 
 pub encoded_by : (report : List ℕ) (check : ℕ) (order before filled : List ℕ) (octets l room : ℕ)

@@ -1,4 +1,4 @@
 pub mod Register
 pub mod Columns
 pub mod Places
-pub mod Refused
+pub mod Calls

@@ -3,7 +3,7 @@ ghost use Rattle.std.specs.Prelude.{◌≡◌, ◌*◌, length};
 ghost use Rattle.block.specs.Checks.{report_message};
 ghost use Rattle.block.specs.Sizes.{block_octets};
 ghost use Rattle.code.specs.Places.{buffer_of};
-ghost use Rattle.code.specs.Refused.{encode_case, EncodeDoes};
+ghost use Rattle.code.specs.Calls.{encode_case, EncodeDoes};
 ghost use Rattle.code.specs.Register.{coded};
 
 use crate::coded::CodedBlock;

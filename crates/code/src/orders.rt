@@ -2,7 +2,7 @@
 ghost use Rattle.std.specs.Prelude.{◌≡◌, true};
 ghost use Rattle.block.specs.Refusals.{Answers};
 ghost use Rattle.code.specs.Columns.{all_below, count_of, each_once, follows_masks, index_of, is_order, order_r};
-ghost use Rattle.code.specs.Refused.{order_checks, order_case};
+ghost use Rattle.code.specs.Calls.{order_checks, order_case};
 
 use crate::{Order, OrderRefusal};
 

@@ -1,7 +1,7 @@
 // Reading a report directly from output 1, with no search.
 ghost use Rattle.std.specs.Prelude.{◌≡◌, ◌^◌, ◌<◌, Decides};
 ghost use Rattle.block.specs.Bits.{bits_of};
-ghost use Rattle.code.specs.Refused.{peek_case, PeekDoes, TailFits};
+ghost use Rattle.code.specs.Calls.{peek_case, PeekDoes, TailFits};
 ghost use Rattle.code.specs.Register.{after, cells, cleared};
 
 use crate::{PeekRefusal, Peeked, Register};

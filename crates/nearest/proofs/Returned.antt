@@ -9,7 +9,7 @@ use Rattle.block.specs.Refusals.{first_refusal}
 use Rattle.block.specs.Sizes.{payload, plan_checks}
 use Rattle.block.proofs.Computed.{below}
 use Rattle.block.proofs.Laws.{octet_same}
-use Rattle.code.specs.Refused.{EncodeDoes}
+use Rattle.code.specs.Calls.{EncodeDoes}
 use Rattle.code.specs.Register.{after, cleared, tail, with_tail}
 use Rattle.weighing.specs.Hard.{hard_reads, hard_weight}
 use Rattle.weighing.specs.Scales.{counted}

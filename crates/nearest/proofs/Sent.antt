@@ -11,7 +11,7 @@ use Rattle.block.specs.Sizes.{block_octets, payload}
 use Rattle.block.proofs.Octets.{bit_at_octets}
 use Rattle.code.specs.Columns.{is_order}
 use Rattle.code.specs.Places.{output, place_bit, place_of}
-use Rattle.code.specs.Refused.{EncodeDoes}
+use Rattle.code.specs.Calls.{EncodeDoes}
 use Rattle.code.specs.Register.{after, cleared, coded, silent, tail, with_tail}
 use Rattle.code.proofs.Runs.{trace_length, trace_own}
 use Rattle.weighing.specs.Hard.{hard_reads, hard_weight}

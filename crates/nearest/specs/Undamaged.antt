@@ -3,7 +3,7 @@ use Rattle.std.specs.Prelude.{◌≡◌, ℕ, ◌+◌, ◌*◌, ◌≤◌, true,
 use Rattle.block.specs.Bits.{bits_of, value}
 use Rattle.block.specs.Checks.{report_message}
 use Rattle.block.specs.Sizes.{block_octets, payload}
-use Rattle.code.specs.Refused.{EncodeDoes}
+use Rattle.code.specs.Calls.{EncodeDoes}
 use Rattle.weighing.specs.Hard.{hard_reads, hard_weight}
 use Rattle.weighing.specs.Scales.{counted}
 use Rattle.weighing.specs.declared.Weighing.{Ghosts}

@@ -113,16 +113,11 @@ impl<'a> Sending<'a> {
         let mut passage = Passage::begin(self.sender.size(), &mut self.sender.cursor);
         let copied = passage.copy(self.report.buffer.as_slice(), target.as_mut_slice(), count);
         ending.end(passage);
+        copied?;
         let after = self.standing();
-        match copied {
-            Ok(()) => println!(rt;
-                "  A passage of {count} octets is copied and {ending}: the sender stood at octet {before} and stands at {after}."
-            )?,
-            Err(refusal) => println!(rt;
-                "  A passage of {count} octets is refused with {}.",
-                refusal.number()
-            )?,
-        }
+        println!(rt;
+            "  A passage of {count} octets is copied and {ending}: the sender stood at octet {before} and stands at {after}."
+        )?;
         Ok(target)
     }
 }

@@ -1,11 +1,14 @@
 -- Every run of a sender sends the buffer in rounds. Assumes nothing.
-use Rattle.std.proofs.Common.{◌≡◌, ℕ, ◌+◌, ◌-◌, ◌%◌, ◌<◌, inl, inr, List, ◌++◌, length, get_or, drop, Ok, Err, Result, sym, refl, ap, ◌∙◌, subst, add-zero, add_assoc, zero-add, arith}
+use Rattle.std.proofs.Common.{◌≡◌, ℕ, ◌+◌, ◌-◌, ◌%◌, ◌<◌, ◌≤◌, inl, inr, List, ◌++◌, map, length, get_or, take, drop, None, Ok, Err, Result, rules, sym, refl, ap, ◌∙◌, subst, add-zero, add_assoc, zero-add, arith}
 use native.Mathlib.Nat.{zero-mod, mod-add-mod}
 use Rattle.std.proofs.lemmas.List.FromFn.{length-map-range_with_len, get_or-map-range_with_len, fill_by_all}
-use Rattle.std.proofs.lemmas.List.{append-nil, take_at, length-append, get_or_append_left, get_or-append_right}
+use Rattle.std.specs.List.{range_with_len}
+use Rattle.std.proofs.lemmas.List.{get_or-take, append-nil, take_at, length-append, get_or_append_left, get_or-append_right}
 use Rattle.std.proofs.lemmas.Bool.{cases_lt}
+use Rattle.std.proofs.lemmas.Nat.{mod_below}
+use Rattle.block.specs.Refusals.{first_refusal}
 use Rattle.sender.specs.declared.PassageRefusal.{PassageRefusal}
-use Rattle.sender.specs.Passages.{Guard, round, sent, CopyDoes}
+use Rattle.sender.specs.Passages.{Guard, round_of, sent, copy_checks, CopyDoes}
 use Rattle.sender.specs.Runs.{Copies, none, next, OwnBuffer, Run, made, confirmed, given_up, written, asked_of, SendsInRounds}
 
 -- what is sent from octet a on, and then from behind that on
@@ -25,34 +28,47 @@ sent_add buffer octets a m n =
 sent_mod : (buffer : List ℕ) (octets a n : ℕ) → sent buffer octets (a % octets) n ≡ sent buffer octets a n
 sent_mod buffer octets a n = simp mod-add-mod
 
+-- what is sent depends on the octets of a round alone
+sent_front : (handed buffer : List ℕ) (round start n : ℕ) → 1 ≤ round → take round handed ≡ take round buffer → sent handed round start n ≡ sent buffer round start n
+sent_front handed buffer round start n some same =
+    let at : (i : ℕ) → get_or handed ((start + i) % round) 0 ≡ get_or buffer ((start + i) % round) 0 =
+    λ i. let within = mod_below (start + i) round some in
+    sym (get_or-take round handed ((start + i) % round) 0 within) ∙ ap (λ xs. get_or xs ((start + i) % round) 0) same ∙ get_or-take round buffer ((start + i) % round) 0 within in
+    λ j. map (λ i. at i j) (range_with_len 0 n)
+
+-- a copy that no check refuses is of a round that has octets
+some_round : (round given room count : ℕ) → first_refusal (copy_checks round given room count) ≡ None → 1 ≤ round
+some_round round given room count e = search rules
+
 -- copies that begin where a octets end
 record Followed (buffer : List ℕ) (g h : Guard) (a : ℕ) (wrote : List ℕ) (asked : ℕ) : Type 0 where
-  wrote_is : wrote ≡ sent buffer g.octets a asked
-  cursor_is : h.cursor ≡ (a + asked) % g.octets
-  octets_is : h.octets ≡ g.octets
+  wrote_is : wrote ≡ sent buffer g.round a asked
+  cursor_is : h.cursor ≡ (a + asked) % g.round
+  round_is : h.round ≡ g.round
 
 -- one copy more, performed or refused
 step : (buffer : List ℕ) (g h h' : Guard) (a : ℕ) (wrote : List ℕ) (asked : ℕ) (handed target target' : List ℕ) (count : ℕ) (r : Result Unit PassageRefusal)
-    → Followed buffer g h a wrote asked → CopyDoes handed target target' count h h' r → OwnBuffer r handed buffer
+    → Followed buffer g h a wrote asked → CopyDoes handed target target' count h h' r → OwnBuffer h.round r handed buffer
     → Followed buffer g h' a (wrote ++ written r count target') (asked + asked_of r count)
 step buffer g h h' a wrote asked handed target target' count (Ok x) f d own =
-    let octets = g.octets in
-    let front = take_at (sent handed h.octets h.cursor count) (drop count target) count (length-map-range_with_len _ 0 count) in
-    let placed = sent_mod buffer octets (a + asked) count in
-    let more = sent_add buffer octets a asked count in
-    let turn = mod-add-mod (a + asked) octets count in
+    let round = g.round in
+    let front = take_at (sent handed h.round h.cursor count) (drop count target) count (length-map-range_with_len _ 0 count) in
+    let same = sent_front handed buffer h.round h.cursor count (some_round h.round (length handed) (length target) count d.0) own in
+    let placed = sent_mod buffer round (a + asked) count in
+    let more = sent_add buffer round a asked count in
+    let turn = mod-add-mod (a + asked) round count in
     let behind = add_assoc a asked count in
     record {
       wrote_is = cc;
       cursor_is = cc;
-      octets_is = cc;
+      round_is = cc;
     }
 step buffer g h h' a wrote asked handed target target' count (Err e) f d own =
     let same = add-zero asked in
     record {
       wrote_is = cc (append-nil wrote);
       cursor_is = cc;
-      octets_is = cc;
+      round_is = cc;
     }
 
 -- a passage remembers where it began
@@ -62,28 +78,28 @@ stays (next c handed target target' count h' (Ok x) d own) = ap (λ k. k.before)
 stays (next c handed target target' count h' (Err e) d own) = ap (λ k. k.before) d.2.1 ∙ stays c
 
 -- so it is after any copies on a passage
-followed : (buffer : List ℕ) (g h : Guard) (a : ℕ) (wrote : List ℕ) (asked : ℕ) → Copies buffer g h wrote asked → g.cursor ≡ a % g.octets → Followed buffer g h a wrote asked
+followed : (buffer : List ℕ) (g h : Guard) (a : ℕ) (wrote : List ℕ) (asked : ℕ) → Copies buffer g h wrote asked → g.cursor ≡ a % g.round → Followed buffer g h a wrote asked
 followed buffer g _ a _ _ none e =
     record {
       wrote_is = refl;
       cursor_is = cc (e, add-zero a);
-      octets_is = refl;
+      round_is = refl;
     }
 followed buffer g _ a _ _ (next {h} {wrote} {asked} c handed target target' count h' r d own) e =
     step buffer g h h' a wrote asked handed target target' count r (followed buffer g h a wrote asked c e) d own
 
 -- what a run keeps up
 record Kept (octets check : ℕ) (buffer : List ℕ) (cursor : ℕ) (kept : List ℕ) (asked : ℕ) : Type 0 where
-  kept_is : kept ≡ sent buffer (round octets check) 0 asked
-  stands : cursor ≡ asked % round octets check
+  kept_is : kept ≡ sent buffer (round_of octets check) 0 asked
+  stands : cursor ≡ asked % round_of octets check
 
 -- so it is after every step of a run
 upheld : (octets check : ℕ) (buffer : List ℕ) (cursor : ℕ) (kept : List ℕ) (asked : ℕ) → Run octets check buffer cursor kept asked → Kept octets check buffer cursor kept asked
-upheld octets check buffer _ _ _ (made s d) = record { kept_is = refl; stands = d.1.2 ∙ sym (zero-mod (round octets check)) }
+upheld octets check buffer _ _ _ (made s d) = record { kept_is = refl; stands = d.1.2 ∙ sym (zero-mod (round_of octets check)) }
 upheld octets check buffer _ _ _ (confirmed {cursor} {kept} {asked} {g} {h} {wrote} {more} run b c cursor' d) =
     let k = upheld octets check buffer cursor kept asked run in
     let f = followed buffer g h asked wrote more c (cc (k.stands, b)) in
-    let joined = sent_add buffer (round octets check) 0 asked more in
+    let joined = sent_add buffer (round_of octets check) 0 asked more in
     let from_here = zero-add asked in
     record { kept_is = cc; stands = cc }
 upheld octets check buffer _ _ _ (given_up {cursor} {kept} {asked} {g} {h} {wrote} {more} run b c cursor' d) =
@@ -91,12 +107,12 @@ upheld octets check buffer _ _ _ (given_up {cursor} {kept} {asked} {g} {h} {wrot
     record { kept_is = k.kept_is; stands = cc (stays c) }
 
 -- the confirmed octets as one list
-pub run_sent : (octets check : ℕ) (buffer : List ℕ) (cursor : ℕ) (kept : List ℕ) (asked : ℕ) → Run octets check buffer cursor kept asked → kept ≡ sent buffer (round octets check) 0 asked
+pub run_sent : (octets check : ℕ) (buffer : List ℕ) (cursor : ℕ) (kept : List ℕ) (asked : ℕ) → Run octets check buffer cursor kept asked → kept ≡ sent buffer (round_of octets check) 0 asked
 run_sent octets check buffer cursor kept asked run = (upheld octets check buffer cursor kept asked run).kept_is
 
 pub sends_in_rounds : SendsInRounds
 sends_in_rounds octets check buffer cursor kept asked run =
-    let octets' = round octets check in
+    let octets' = round_of octets check in
     let k = upheld octets check buffer cursor kept asked run in
     let many : length kept ≡ asked = ap length k.kept_is ∙ length-map-range_with_len _ 0 asked in
     record {

@@ -15,21 +15,21 @@ passage_case Count = numbered 8
 passage_case Short = numbered 6
 
 -- a round is the 4 * N octets of the buffer
-abbrev pub round : ℕ → ℕ → ℕ
-round octets check = 4 * block_octets octets check
+abbrev pub round_of : ℕ → ℕ → ℕ
+round_of octets check = 4 * block_octets octets check
 
 -- the `count` octets from octet `start` on, where octet 0 comes again after a round's last
 abbrev pub sent : List ℕ → ℕ → ℕ → ℕ → List ℕ
-sent buffer octets start count = map (λ i. slice_index buffer ((start + i) % octets)) (range_with_len 0 count)
+sent buffer round start count = map (λ i. slice_index buffer ((start + i) % round)) (range_with_len 0 count)
 
 -- a passage: where its sender stands, where it stood when the passage began, and the octets of a round
 pub record Guard : Type 0 where
   pub cursor : ℕ
   pub before : ℕ
-  pub octets : ℕ
+  pub round : ℕ
 
 abbrev pub held : Passage → Guard
-held p = record { cursor = p.cursor.now; before = p.before; octets = p.octets }
+held p = record { cursor = p.cursor.now; before = p.before; round = p.round }
 
 -- A sender is made for a size, and stands at octet 0.
 abbrev pub NewDoes : ℕ → ℕ → Result Sender SizeRefusal → Type 0
@@ -38,7 +38,7 @@ NewDoes octets check r =
 
 -- a passage that began at `before` and has come to `cursor`
 abbrev pub passing : ℕ → ℕ → ℕ → ℕ → Guard
-passing octets check before cursor = record { cursor = cursor; before = before; octets = round octets check }
+passing octets check before cursor = record { cursor = cursor; before = before; round = round_of octets check }
 
 -- A passage begins where the sender stands.
 abbrev pub BeginDoes : ℕ → ℕ → ℕ → Guard → Type 0
@@ -46,18 +46,18 @@ BeginDoes octets check cursor g = g ≡ passing octets check cursor cursor
 
 -- a copy has 1 to 4 * N octets; the buffer has a whole round, and the target room for the copy
 abbrev pub copy_checks : ℕ → ℕ → ℕ → ℕ → List Check
-copy_checks octets given room count =
-    if_refuse (count == 0 || nat_lt octets count) 8 ∷ if_refuse (nat_lt given octets || nat_lt room count) 6 ∷ []
+copy_checks round given room count =
+    if_refuse (count == 0 || nat_lt round count) 8 ∷ if_refuse (nat_lt given round || nat_lt room count) 6 ∷ []
 
 -- the passage `count` octets on
 abbrev pub onward : Guard → ℕ → Guard
-onward g count = record { cursor = (g.cursor + count) % g.octets; before = g.before; octets = g.octets }
+onward g count = record { cursor = (g.cursor + count) % g.round; before = g.before; round = g.round }
 
 -- A copy fills the target's front with the next octets, and moves on; a refused one changes nothing.
 abbrev pub CopyDoes : List ℕ → List ℕ → List ℕ → ℕ → Guard → Guard → Result Unit PassageRefusal → Type 0
 CopyDoes buffer target target' count g g' r =
-    Performs (copy_checks g.octets (length buffer) (length target) count) passage_case
-    (λ _. (target' ≡ sent buffer g.octets g.cursor count ++ drop count target) × (g' ≡ onward g count))
+    Performs (copy_checks g.round (length buffer) (length target) count) passage_case
+    (λ _. (target' ≡ sent buffer g.round g.cursor count ++ drop count target) × (g' ≡ onward g count))
     ((target' ≡ target) × (g' ≡ g)) r
 
 -- Confirming keeps the new standing, and giving up brings the old one back.
@@ -66,9 +66,3 @@ ConfirmDoes g cursor = cursor ≡ g.cursor
 
 abbrev pub GiveUpDoes : Guard → ℕ → Type 0
 GiveUpDoes g cursor = cursor ≡ g.before
-
--- Sending is a passage of one copy, which is confirmed.
-abbrev pub SendDoes : List ℕ → List ℕ → List ℕ → ℕ → Sender → Sender → Result Unit PassageRefusal → Type 0
-SendDoes buffer target target' count s s' r =
-    let at = passing s.size.octets s.size.check s.cursor in
-    (s'.size ≡ s.size) × CopyDoes buffer target target' count (at s.cursor) (at s'.cursor) r

@@ -41,7 +41,7 @@ pub struct ShortRun {
 pub struct Passage<'a> {
     cursor: &'a mut usize,
     before: usize,
-    octets: usize,
+    round: usize,
 }
 
 impl Drop for Passage<'_> {
@@ -54,7 +54,7 @@ impl Drop for Passage<'_> {
         let Self {
             cursor: _,
             before: _,
-            octets: _,
+            round: _,
         } = self;
     }
 }

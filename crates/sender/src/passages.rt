@@ -33,11 +33,11 @@ impl<'a> Passage<'a> {
         ensures same { result.cursor.ghost_name ≡ cursor.entry.ghost_name }
     {
         let before = *cursor;
-        let octets = 4 * size.block_octets();
+        let round = 4 * size.block_octets();
         Passage {
             cursor,
             before,
-            octets,
+            round,
         }
     }
 
@@ -51,14 +51,14 @@ impl<'a> Passage<'a> {
         ensures does { CopyDoes buffer.now target.old target.new count (held self.old) (held self.new) result }
         ensures same { self.new.cursor.ghost_name ≡ self.old.cursor.ghost_name }
     {
-        if count == 0 || count > self.octets {
+        if count == 0 || count > self.round {
             return Err(PassageRefusal::Count);
         }
-        if buffer.len() < self.octets || target.len() < count {
+        if buffer.len() < self.round || target.len() < count {
             return Err(PassageRefusal::Short);
         }
         let start = *self.cursor;
-        *self.cursor = copy_round(&buffer[..self.octets], start, &mut target[..count]);
+        *self.cursor = copy_round(&buffer[..self.round], start, &mut target[..count]);
         Ok(())
     }
 
@@ -77,7 +77,7 @@ impl<'a> Passage<'a> {
         let Self {
             cursor: _,
             before: _,
-            octets: _,
+            round: _,
         } = self;
     }
 }

@@ -1,12 +1,12 @@
-// Making a sender, and sending a piece by one call.
+// Making a sender, and where it stands.
 ghost use Rattle.std.specs.Prelude.{◌≡◌, ◌%◌};
-ghost use Rattle.sender.specs.Passages.{NewDoes, SendDoes, round};
+ghost use Rattle.sender.specs.Passages.{NewDoes, round_of};
 
-use crate::{Passage, PassageRefusal, Sender};
+use crate::Sender;
 use block::{Size, SizeRefusal};
 
 impl Sender {
-    // A sender for the block of a message of T octets with a check of L bits. The two come as numbers, since the call itself
+    // A sender for the block of a report of T octets with a check of L bits. The two come as numbers, since the call itself
     // refuses what is no size.
     pub fn new(octets: usize, check: usize) -> Result<Sender, SizeRefusal>
         ensures { NewDoes octets check result }
@@ -23,23 +23,8 @@ impl Sender {
 
     // The octet of the buffer that the next passage begins at.
     pub fn standing(&self) -> usize
-        ensures { result ≡ self.now.cursor % round self.now.size.octets self.now.size.check }
+        ensures { result ≡ self.now.cursor % round_of self.now.size.octets self.now.size.check }
     {
         self.cursor % (4 * self.size.block_octets())
-    }
-
-    // A confirmed passage of one copy, whose `count` stands beside the target as in `Passage::copy`.
-    pub fn send(
-        &mut self,
-        buffer: &[u8],
-        target: &mut [u8],
-        count: usize,
-    ) -> Result<(), PassageRefusal>
-        ensures { SendDoes buffer.now target.old target.new count self.old self.new result }
-    {
-        let mut passage = Passage::begin(self.size, &mut self.cursor);
-        passage.copy(buffer, target, count)?;
-        passage.confirm();
-        Ok(())
     }
 }

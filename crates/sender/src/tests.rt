@@ -7,6 +7,19 @@ use std::test::Fail;
 
 const BUFFER: [u8; 8] = [0x80, 0x0b, 0x20, 0x60, 0x20, 0x62, 0x22, 0x60];
 
+// A confirmed passage of one copy; one that is refused is let go.
+fn send(
+    sender: &mut Sender,
+    buffer: &[u8],
+    target: &mut [u8],
+    count: usize,
+) -> Result<(), PassageRefusal> {
+    let mut passage = Passage::begin(sender.size(), &mut sender.cursor);
+    passage.copy(buffer, target, count)?;
+    passage.confirm();
+    Ok(())
+}
+
 // However a copy ends, a passage that is let go leaves the sender as it was.
 fn let_go(sender: &mut Sender, target: &mut [u8], count: usize)
     ensures { sender.new ≡ sender.old }
@@ -19,11 +32,11 @@ fn let_go(sender: &mut Sender, target: &mut [u8], count: usize)
 fn sends_round_after_round(rt: HostRuntime) -> Result<(), Fail> {
     let mut sender = Sender::new(1, 4)?;
     let mut target = [0; 4];
-    sender.send(&BUFFER, &mut target, 4)?;
+    send(&mut sender, &BUFFER, &mut target, 4)?;
     assert_eq!(rt; target, [0x80, 0x0b, 0x20, 0x60]);
-    sender.send(&BUFFER, &mut target, 3)?;
+    send(&mut sender, &BUFFER, &mut target, 3)?;
     assert_eq!(rt; target, [0x20, 0x62, 0x22, 0x60]);
-    sender.send(&BUFFER, &mut target, 3)?;
+    send(&mut sender, &BUFFER, &mut target, 3)?;
     assert_eq!(rt; target, [0x60, 0x80, 0x0b, 0x60]);
     assert_eq!(rt; sender.standing(), 2);
     Ok(())
@@ -33,7 +46,7 @@ fn sends_round_after_round(rt: HostRuntime) -> Result<(), Fail> {
 fn gives_up(rt: HostRuntime) -> Result<(), Fail> {
     let mut sender = Sender::new(1, 4)?;
     let mut target = [0; 8];
-    sender.send(&BUFFER, &mut target, 3)?;
+    send(&mut sender, &BUFFER, &mut target, 3)?;
     let_go(&mut sender, &mut target, 7);
     assert_eq!(rt; sender.standing(), 3);
     let mut passage = Passage::begin(sender.size(), &mut sender.cursor);
@@ -66,19 +79,19 @@ fn refuses(rt: HostRuntime) -> Result<(), Fail> {
     let mut sender = Sender::new(1, 4)?;
     let mut target = [7; 4];
     assert_eq!(rt;
-        sender.send(&BUFFER, &mut target, 0),
+        send(&mut sender, &BUFFER, &mut target, 0),
         Err(PassageRefusal::Count)
     );
     assert_eq!(rt;
-        sender.send(&[], &mut target, 9),
+        send(&mut sender, &[], &mut target, 9),
         Err(PassageRefusal::Count)
     );
     assert_eq!(rt;
-        sender.send(&BUFFER[0..7], &mut target, 1),
+        send(&mut sender, &BUFFER[0..7], &mut target, 1),
         Err(PassageRefusal::Short)
     );
     assert_eq!(rt;
-        sender.send(&BUFFER, &mut target, 5),
+        send(&mut sender, &BUFFER, &mut target, 5),
         Err(PassageRefusal::Short)
     );
     assert_eq!(rt; PassageRefusal::Count.number(), 8);

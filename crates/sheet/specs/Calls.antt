@@ -47,7 +47,7 @@ open_checks octets check tally = size_checks octets check ++ (if_refuse (tally_s
 abbrev pub wipe_checks : ℕ → ℕ → List Check
 wipe_checks n tally = if_refuse (tally_short n tally) 6 ∷ []
 
--- tally, start octet, how many symbols come, how many were taken, the symbols
+-- in their order: the tally, the start, how many symbols come, how many will then have been taken, and the symbols themselves
 abbrev pub take_checks : {A : Type 0} → (ℕ → Option A) → ℕ → ℕ → ℕ → ℕ → List ℕ → List Check
 take_checks reads n tally count start octets =
     if_refuse (tally_short n tally) 6

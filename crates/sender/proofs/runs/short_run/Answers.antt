@@ -14,9 +14,9 @@ nothing buffer target target' g g' (Err Count) d = (refl, d.2.1, d.2.0)
 nothing buffer target target' g g' (Err Short) d = absurd (cc d.0)
 
 -- each copy is handed the buffer itself
-own : (r : Result Unit PassageRefusal) (buffer : List ℕ) → OwnBuffer r buffer buffer
-own (Ok x) buffer = refl
-own (Err e) buffer = tt
+own : (round : ℕ) (r : Result Unit PassageRefusal) (buffer : List ℕ) → OwnBuffer round r buffer buffer
+own round (Ok x) buffer = refl
+own round (Err e) buffer = tt
 
 pub returns : goal.returns
 returns c =
@@ -31,7 +31,7 @@ returns c =
     let target = c.copy-refused.new.target in
     let target' = c.copy.new.target in
     let idle = nothing buffer c.args.kept.now target g h c.copy-refused.result c.copy-refused.ensures.does in
-    let copies = next (next none buffer c.args.kept.now target 0 h c.copy-refused.result c.copy-refused.ensures.does (own _ _)) buffer target target' 3 h' c.copy.result c.copy.ensures.does (own _ _) in
+    let copies = next (next none buffer c.args.kept.now target 0 h c.copy-refused.result c.copy-refused.ensures.does (own _ _ _)) buffer target target' 3 h' c.copy.result c.copy.ensures.does (own _ _ _) in
     let wrote_is : written c.copy-refused.result 0 target ++ written c.copy.result 3 target' ≡ target' = cc (idle.0, c.unwrap.ensures, take_all 3 target' (search rules)) in
     let asked_is : 0 + (0 + asked_of c.copy-refused.result 0 + asked_of c.copy.result 3) ≡ 3 = simp (idle.0, c.unwrap.ensures) in
     let cursor = c.confirm.new.self.0 in
@@ -39,7 +39,7 @@ returns c =
     -- what the second passage copies is given up
     let g' = held c.begin-second.result in
     let begun' : BeginDoes 1 4 cursor g' = cc (made_so.1.0, made_so.1.1, c.size-2.ensures, c.begin-second.ensures.does) in
-    let tried = next none buffer c.args.given_up.now c.copy-2.new.target 2 (held c.copy-2.new.self) c.copy-2.result c.copy-2.ensures.does (own _ _) in
+    let tried = next none buffer c.args.given_up.now c.copy-2.new.target 2 (held c.copy-2.new.self) c.copy-2.result c.copy-2.ensures.does (own _ _ _) in
     let cursor' = c.give_up.new.self.0 in
     let stands : cursor ≡ 3 = (sends_in_rounds 1 4 buffer cursor target' 3 after).stands in
     let lost = (rw c.unwrap-2.ensures at c.copy-2.ensures.does).1.0 in
@@ -49,6 +49,6 @@ returns c =
       run = run;
       refused = idle.0;
       kept = run_sent 1 4 buffer cursor' target' 3 run;
-      given_up = rw (ap (λ x. x.cursor) at, ap (λ x. x.octets) at, drop_all 2 c.args.given_up.now (search rules)) at lost;
+      given_up = rw (ap (λ x. x.cursor) at, ap (λ x. x.round) at, drop_all 2 c.args.given_up.now (search rules)) at lost;
       sender = (made_so.1.0, made_so.1.1, (sends_in_rounds 1 4 buffer cursor' target' 3 run).stands);
     }

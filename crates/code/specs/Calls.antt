@@ -15,7 +15,7 @@ use Rattle.code.specs.declared.PeekRefusal.{PeekRefusal}
 use Rattle.code.specs.declared.PeekRefusal.TheVariants.{Size as peek_size, Received, Target}
 use Rattle.code.specs.declared.Peeked.{Peeked}
 
--- the cases of each refusal
+-- the case of the refusal of an order
 abbrev pub order_case : OrderRefusal → Case
 order_case Columns = numbered 4
 
