@@ -6,20 +6,20 @@ use Rattle.search.specs.declared.Entry.{Entry}
 use Rattle.search.specs.declared.FindRefusal.{FindRefusal}
 use Rattle.search.specs.declared.Found.{Found}
 use Rattle.sheet.specs.Books.{empty}
-use Rattle.sheet.specs.Calls.{DecodeDoes, OpenDoes, TakeDoes}
+use Rattle.sheet.specs.Calls.{DecodeDoes, OpenDoes, TakeDoes, block_of}
 use Rattle.sheet.specs.declared.Sheet.{Sheet}
 use Rattle.sheet.specs.declared.TakeRefusal.{TakeRefusal}
 use Rattle.nearest.specs.Runs.{OwnTally, ThreeCalls, after_take, called, decodes, opened, takes}
 
 -- a call that reads the sheet's own tally
-read_own : {V A E : Type 0} (r : Result A E) (tally : List (Entry V)) → OwnTally r tally tally tally tally
-read_own (Ok x) tally = (refl, refl)
-read_own (Err e) tally = refl
+read_own : {V A E : Type 0} (n : ℕ) (r : Result A E) (tally : List (Entry V)) → OwnTally n r tally tally tally tally
+read_own n (Ok x) tally = (refl, refl)
+read_own n (Err e) tally = refl
 
 module _ {V A : Type 0} (W : Type 0) (g : Ghosts W V) (s : Scale V) (reads : ℕ → Option A) (against : A → Bool → V) where
   -- a take on the sheet's own tally
   took : (before after : Sheet W V g) (tally tally' : List (Entry V)) (start : ℕ) (symbols : List ℕ) (r : Result ℕ TakeRefusal)
-      → TakeDoes s reads against before after tally tally' start symbols r → OwnTally r tally tally' tally tally'
+      → TakeDoes s reads against before after tally tally' start symbols r → OwnTally (block_of before) r tally tally' tally tally'
   took before after tally tally' start symbols (Ok total) does = (refl, refl)
   took before after tally tally' start symbols (Err e) does = does.2.1
 
@@ -40,7 +40,7 @@ module _ {V A : Type 0} (W : Type 0) (g : Ghosts W V) (s : Scale V) (reads : ℕ
         decoding = decode;
         run =
             called (record { sheet = after; tally = tally₂; book = book })
-            (called (record { sheet = after; tally = tally₂; book = book }) (opened (record { sheet = sheet; tally = tally₁; book = empty }) octets check order tally₀ opening refl)
+            (called (record { sheet = after; tally = tally₂; book = book }) (opened (record { sheet = sheet; tally = tally₁; book = empty }) tally₀ opening refl)
             (takes tally₁ tally₂ start symbols r take (took sheet after tally₁ tally₂ start symbols r take) refl))
-            (decodes tally₂ target target' words words' paths paths' d decode (read_own d tally₂) refl refl);
+            (decodes tally₂ target target' words words' paths paths' d decode (read_own _ d tally₂) refl refl);
       }

@@ -1,5 +1,6 @@
 -- The theorem on whole runs: what the distances are. Assumes nothing.
 use Rattle.std.specs.Prelude.{◌≡◌, ℕ, ◌*◌, ◌<◌, ◌≤◌, Bool, List, length, Ok, Option}
+use Rattle.block.specs.Sizes.{block_octets}
 use Rattle.weighing.specs.Scales.{Scale}
 use Rattle.weighing.specs.declared.Weighing.{Ghosts}
 use Rattle.search.specs.Found.{Names}
@@ -8,37 +9,39 @@ use Rattle.search.specs.declared.Entry.{Entry}
 use Rattle.search.specs.declared.Found.{Found}
 use Rattle.sender.specs.Runs.{SendsInRounds}
 use Rattle.sheet.specs.Books.{book_sums, noted}
-use Rattle.sheet.specs.Calls.{DecodeDoes, TakeDoes, block_of}
+use Rattle.sheet.specs.Calls.{TakeDoes}
 use Rattle.sheet.specs.declared.Sheet.{Sheet}
-use Rattle.nearest.specs.Runs.{Run, Standing, Stretch}
+use Rattle.nearest.specs.Runs.{Decoded, Run, Standing, Stretch}
 
 module _ {V A : Type 0} (W : Type 0) (g : Ghosts W V) (s : Scale V) (reads : ℕ → Option A) (against : A → Bool → V) where
-  -- What holds of a sheet at every point of a run. Its tally has an entry for each place, and each place's entry is that
-  -- place's two sums in the book. A performed take answers the book's count. A performed decode names a message, answers
-  -- exactly its weight by the book, and every other message of the size weighs at least as much by the book.
-  pub record ByTheBook (st : Standing g) : Type 0 where
-    pub room : 32 * block_of st.sheet ≤ length st.tally
-    pub entries : (p : ℕ) (b : Bool) → p < 32 * block_of st.sheet
-        → entry_sums s st.tally p b ≡ book_sums reads s against (32 * block_of st.sheet) st.book p b
-    pub counted : st.sheet.count ≡ st.book.count
-    pub take_answers : (start : ℕ) (symbols : List ℕ) (sheet : Sheet W V g) (tally : List (Entry V)) (total : ℕ)
-        → TakeDoes s reads against st.sheet sheet st.tally tally start symbols (Ok total)
+  -- What holds of a sheet at every point of a run that opened it for this size and order. It is still of that size and
+  -- order, its tally has an entry for each place, and each place's entry is that place's two sums in the book. A performed
+  -- take answers the book's count. A performed decode names a message, answers exactly its weight by the book, and every
+  -- other message of the size weighs at least as much by the book.
+  pub record ByTheBook (octets check : ℕ) (order : List ℕ) (st : Standing g) : Type 0 where
+    pub octets_are : st.sheet.size.octets ≡ octets
+    pub check_is : st.sheet.size.check ≡ check
+    pub order_is : st.sheet.order.columns ≡ order
+    pub room : 32 * block_octets octets check ≤ length st.tally
+    pub entries : (p : ℕ) (b : Bool) → p < 32 * block_octets octets check
+        → entry_sums s st.tally p b ≡ book_sums reads s against (32 * block_octets octets check) st.book p b
+    pub count_is : st.sheet.count ≡ st.book.count
+    pub take_answers : (lent lent' : List (Entry V)) (start : ℕ) (symbols : List ℕ) (sheet : Sheet W V g) (total : ℕ)
+        → TakeDoes s reads against st.sheet sheet lent lent' start symbols (Ok total)
         → total ≡ (noted st.book start symbols).count
-    pub decode_names : (target target' words words' : List ℕ) (paths paths' : List (Option V)) (found : Found V)
-        → DecodeDoes s st.sheet st.tally target target' words words' paths paths' (Ok found)
-        → Names s st.sheet.size.octets st.sheet.size.check st.sheet.order.columns
-        (book_sums reads s against (32 * block_of st.sheet) st.book) target target' found
+    pub decode_names : (target target' : List ℕ) (found : Found V) → Decoded W g s reads against st target target' found
+        → Names s octets check order (book_sums reads s against (32 * block_octets octets check) st.book) target target' found
 
   abbrev pub TallyPart : Type 0
-  TallyPart = (st : Standing g) → Run W g s reads against st → ByTheBook st
+  TallyPart = (octets check : ℕ) (order : List ℕ) (st : Standing g) → Run W g s reads against octets check order st → ByTheBook octets check order st
 
   -- From one performed decode to a later one with no performed wipe between, the weight does not fall.
   abbrev pub GrowthPart : Type 0
   GrowthPart =
-      (first later : Standing g) → Run W g s reads against first → Stretch W g s reads against first later
-      → (target₁ target₁' words₁ words₁' target₂ target₂' words₂ words₂' : List ℕ) (paths₁ paths₁' paths₂ paths₂' : List (Option V)) (found₁ found₂ : Found V)
-      → DecodeDoes s first.sheet first.tally target₁ target₁' words₁ words₁' paths₁ paths₁' (Ok found₁)
-      → DecodeDoes s later.sheet later.tally target₂ target₂' words₂ words₂' paths₂ paths₂' (Ok found₂)
+      (octets check : ℕ) (order : List ℕ) (first later : Standing g) → Run W g s reads against octets check order first
+      → Stretch W g s reads against first later
+      → (target₁ target₁' target₂ target₂' : List ℕ) (found₁ found₂ : Found V)
+      → Decoded W g s reads against first target₁ target₁' found₁ → Decoded W g s reads against later target₂ target₂' found₂
       → s.atmost (s.mean found₁.weight) (s.mean found₂.weight)
 
   -- The theorem: the tally by its book, the growth of the weight, and the sender's octets in rounds.
