@@ -1,5 +1,5 @@
 -- A report of one octet that comes back undamaged. Assumes nothing.
-use Rattle.std.proofs.Common.{◌≡◌, ℕ, ◌+◌, ◌*◌, ◌/◌, ◌%◌, ◌<◌, ◌≤◌, Bool, true, false, eqb, List, [], ◌∷◌, ◌++◌, get_or, drop, length, Ok, Err, None, Option, Result, MatchResult, refl, ap, ◌∙◌, subst, arith, rules}
+use Rattle.std.proofs.Common.{◌≡◌, ℕ, ◌+◌, ◌*◌, ◌/◌, ◌%◌, ◌<◌, ◌≤◌, Bool, true, false, eqb, List, [], ◌∷◌, ◌++◌, get_or, drop, length, Ok, Err, None, Option, Result, MatchResult, refl, ap, ◌∙◌, arith, rules}
 use Rattle.std.proofs.lemmas.List.{get_or_append_left}
 use Rattle.std.proofs.lemmas.List.FromFn.{get_or-map-range_with_len, length-map-range_with_len}
 use Rattle.std.proofs.lemmas.Bool.{eqb-true}
@@ -10,18 +10,18 @@ use Rattle.block.specs.Sizes.{payload, plan_checks}
 use Rattle.block.proofs.Computed.{below}
 use Rattle.block.proofs.Laws.{octet_same}
 use Rattle.code.specs.Calls.{EncodeDoes}
+use Rattle.code.specs.Columns.{order_r}
 use Rattle.code.specs.Register.{after, cleared, tail, with_tail}
 use Rattle.weighing.specs.Hard.{hard_reads, hard_weight}
 use Rattle.weighing.specs.Scales.{counted}
 use Rattle.weighing.specs.declared.Weighing.{Ghosts}
+use Rattle.weighing.specs.declared.hard.HardSymbol.{HardSymbol}
 use Rattle.search.specs.Found.{FindDoes}
 use Rattle.search.specs.declared.Entry.{Entry}
 use Rattle.search.specs.declared.FindRefusal.{FindRefusal}
 use Rattle.search.specs.declared.Found.{Found}
-use Rattle.sheet.specs.Calls.{TakeDoes}
-use Rattle.sheet.specs.declared.Sheet.{Sheet}
-use Rattle.sheet.specs.declared.TakeRefusal.{TakeRefusal}
 use Rattle.nearest.specs.Runs.{ThreeCalls}
+use Rattle.nearest.specs.declared.ShortRun.{ShortRun}
 use Rattle.nearest.specs.Undamaged.{NamesSent, heard}
 use Rattle.nearest.proofs.Fitting.{own_bit}
 use Rattle.nearest.proofs.Sent.{decodes_what_was_sent}
@@ -69,15 +69,12 @@ echo_named x small order tally target target' words words' paths paths' (Ok foun
     (own_octet x small target target' (bits_of target' 12) (length-map-range_with_len (bit_at target') 0 12) sent.0 find.1.0.written, sent.1, sent.2)
 echo_named x small order tally target target' words words' paths paths' (Err e) find sent = sent
 
-pub echoes : {W : Type 0} {g : Ghosts W ℕ} (x k : ℕ) → x < 256 → k ≤ 24 → (order columns before buffer symbols : List ℕ) → columns ≡ order
-    → EncodeDoes (x ∷ []) 4 columns before buffer (Ok tt) → symbols ≡ heard buffer (payload 1 4 k)
-    → (tally tally' : List (Entry ℕ)) (target target' words words' : List ℕ) (paths paths' : List (Option ℕ)) (sheet : Sheet W ℕ g) (taken : Result ℕ TakeRefusal) (answer : Result (Found ℕ) FindRefusal)
+pub echoes : {W : Type 0} {g : Ghosts W ℕ} (x k : ℕ) → x < 256 → k ≤ 24 → (before buffer : List ℕ) → EncodeDoes (x ∷ []) 4 order_r before buffer (Ok tt)
+    → {tally tally' : List (Entry ℕ)} {target target' words words' : List ℕ} {paths paths' : List (Option ℕ)} (run : ShortRun W HardSymbol ℕ g)
     → 2 ≤ length target → 16 ≤ length words → 32 ≤ length paths
-    → ThreeCalls W g counted hard_reads hard_weight 1 4 order 0 symbols tally tally' target target' words words' paths paths' sheet taken answer → Echoes x target' answer
-echoes {W} {g} x k small rate order columns before buffer symbols same encode heard_so tally tally' target target' words words' paths paths' sheet taken answer a b c run =
-    let encoded = subst (λ cs. EncodeDoes (x ∷ []) 4 cs before buffer (Ok tt)) same encode in
-    let taking = subst (λ xs. TakeDoes counted hard_reads hard_weight run.new_sheet sheet run.between tally' 0 xs taken) heard_so run.taking in
+    → ThreeCalls W g counted hard_reads hard_weight 0 (heard buffer (payload 1 4 k)) tally tally' target target' words words' paths paths' run → Echoes x target' run.found
+echoes {W} {g} x k small rate before buffer encode {tally} {tally'} {target} {target'} {words} {words'} {paths} {paths'} run a b c calls =
     let sent =
-    (decodes_what_was_sent W g (x ∷ []) 4 k order before buffer rate encoded tally run.between tally' run.new_sheet sheet taken run.opening taking).1 target target' words words' paths paths' answer a b c run.decoding in
-    echo_named x small order tally' target target' words words' paths paths' answer
-    (at_opening 1 4 order tally run.between tally' run.new_sheet sheet 0 symbols taken run.opening run.taking target target' words words' paths paths' answer run.decoding) sent
+    (decodes_what_was_sent W g (x ∷ []) 4 k order_r before buffer rate encode tally calls.between tally' calls.new_sheet run.sheet run.taken calls.opening calls.taking).1 target target' words words' paths paths' run.found a b c calls.decoding in
+    echo_named x small order_r tally' target target' words words' paths paths' run.found
+    (at_opening 1 4 order_r tally calls.between tally' calls.new_sheet run.sheet 0 (heard buffer (payload 1 4 k)) run.taken calls.opening calls.taking target target' words words' paths paths' run.found calls.decoding) sent

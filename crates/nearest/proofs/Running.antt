@@ -1,14 +1,14 @@
 -- A run by an opening, a take and a decode. Assumes nothing.
 use Rattle.std.proofs.Common.{◌≡◌, ℕ, Bool, List, Ok, Err, Option, Result, refl, subst}
+use Rattle.code.specs.Columns.{order_r}
 use Rattle.weighing.specs.Scales.{Scale}
 use Rattle.weighing.specs.declared.Weighing.{Ghosts}
 use Rattle.search.specs.declared.Entry.{Entry}
-use Rattle.search.specs.declared.FindRefusal.{FindRefusal}
-use Rattle.search.specs.declared.Found.{Found}
 use Rattle.sheet.specs.Books.{empty}
 use Rattle.sheet.specs.Calls.{DecodeDoes, OpenDoes, TakeDoes, block_of}
 use Rattle.sheet.specs.declared.Sheet.{Sheet}
 use Rattle.sheet.specs.declared.TakeRefusal.{TakeRefusal}
+use Rattle.nearest.specs.declared.ShortRun.{ShortRun}
 use Rattle.nearest.specs.Runs.{OwnTally, ThreeCalls, after_take, called, decodes, opened, takes}
 
 -- a call that reads the sheet's own tally
@@ -23,24 +23,24 @@ module _ {V A : Type 0} (W : Type 0) (g : Ghosts W V) (s : Scale V) (reads : ℕ
   took before after tally tally' start symbols (Ok total) does = (refl, refl)
   took before after tally tally' start symbols (Err e) does = does.2.1
 
-  pub three_calls : {octets check : ℕ} {order : List ℕ} {tally₀ tally₂ : List (Entry V)} {after : Sheet W V g} {start : ℕ} {symbols : List ℕ} {r : Result ℕ TakeRefusal}
-      {target target' words words' : List ℕ} {paths paths' : List (Option V)} {d : Result (Found V) FindRefusal} (columns : List ℕ) (tally₁ : List (Entry V)) (sheet : Sheet W V g)
-      → columns ≡ order → OpenDoes s octets check columns tally₀ tally₁ (Ok sheet)
-      → TakeDoes s reads against sheet after tally₁ tally₂ start symbols r
-      → DecodeDoes s after tally₂ target target' words words' paths paths' d
-      → ThreeCalls W g s reads against octets check order start symbols tally₀ tally₂ target target' words words' paths paths' after r d
-  three_calls {octets} {check} {order} {tally₀} {tally₂} {after} {start} {symbols} {r} {target} {target'} {words} {words'} {paths} {paths'} {d} columns tally₁ sheet same does take decode =
-      let opening = subst (λ cs. OpenDoes s octets check cs tally₀ tally₁ (Ok sheet)) same does in
-      let book = after_take empty start symbols r in
+  pub three_calls : {start : ℕ} {symbols : List ℕ} {tally₀ tally₂ : List (Entry V)} {target target' words words' : List ℕ} {paths paths' : List (Option V)}
+      (run : ShortRun W A V g) (columns : List ℕ) (tally₁ : List (Entry V)) (sheet : Sheet W V g)
+      → columns ≡ order_r → OpenDoes s 1 4 columns tally₀ tally₁ (Ok sheet)
+      → TakeDoes s reads against sheet run.sheet tally₁ tally₂ start symbols run.taken
+      → DecodeDoes s run.sheet tally₂ target target' words words' paths paths' run.found
+      → ThreeCalls W g s reads against start symbols tally₀ tally₂ target target' words words' paths paths' run
+  three_calls {start} {symbols} {tally₀} {tally₂} {target} {target'} {words} {words'} {paths} {paths'} run columns tally₁ sheet same does take decode =
+      let opening = subst (λ cs. OpenDoes s 1 4 cs tally₀ tally₁ (Ok sheet)) same does in
+      let book = after_take empty start symbols run.taken in
       record {
         between = tally₁;
         new_sheet = sheet;
         opening = opening;
         taking = take;
         decoding = decode;
-        run =
-            called (record { sheet = after; tally = tally₂; book = book })
-            (called (record { sheet = after; tally = tally₂; book = book }) (opened (record { sheet = sheet; tally = tally₁; book = empty }) tally₀ opening refl)
-            (takes tally₁ tally₂ start symbols r take (took sheet after tally₁ tally₂ start symbols r take) refl))
-            (decodes tally₂ target target' words words' paths paths' d decode (read_own _ d tally₂) refl refl);
+        makes =
+            called (record { sheet = run.sheet; tally = tally₂; book = book })
+            (called (record { sheet = run.sheet; tally = tally₂; book = book }) (opened (record { sheet = sheet; tally = tally₁; book = empty }) tally₀ opening refl)
+            (takes tally₁ tally₂ start symbols run.taken take (took sheet run.sheet tally₁ tally₂ start symbols run.taken take) refl))
+            (decodes tally₂ target target' words words' paths paths' run.found decode (read_own _ run.found tally₂) refl refl);
       }

@@ -79,8 +79,8 @@ module _ {V A : Type 0} (W : Type 0) (g : Ghosts W V) (s : Scale V) (reads : ℕ
       let long : length second ≡ bits = length-map-range_with_len (bit_at target₂') 0 bits in
       let heavier : (p : ℕ) (b : Bool) → p < 32 * n → s.atmost (entry_sums s d₁.lent p b) (entry_sums s d₂.lent p b) =
       λ p b h.
-          rw (lent_sums W g s reads against octets check order first kept₁ d₁.lent d₁.own p b h, lent_sums W g s reads against octets check order later kept₂ d₂.lent d₂.own p b h)
-          (stretch_heavier octets check order first run stretch p b h) in
+      rw (lent_sums W g s reads against octets check order first kept₁ d₁.lent d₁.own p b h, lent_sums W g s reads against octets check order later kept₂ d₂.lent d₂.own p b h)
+      (stretch_heavier octets check order first run stretch p b h) in
       rw (names₁.weighs, names₂.weighs)
       (s.laws.transitive _ (weight s order n (entry_sums s d₁.lent) second) _ (names₁.nearest second long)
       (weight_grows s order (ordered W g s reads against octets check order first kept₁) n _ _ heavier second (omega (arith, whole W g s reads against octets check order first kept₁))))

@@ -1,16 +1,20 @@
 -- Runs of a sheet: it is opened on a tally, and takes, decodes and wipes then follow, performed or refused in any mix.
 -- Each step is what the call's contract says, and the book is moved by what the call was handed. Assumes nothing.
-use Rattle.std.specs.Prelude.{◌≡◌, ℕ, ◌*◌, Bool, List, take, Ok, Err, Option, Result}
+use Rattle.std.specs.Prelude.{◌≡◌, ℕ, ◌*◌, Bool, List, length, take, Ok, Err, Option, Result}
+use Rattle.block.specs.Refusals.{Performs}
+use Rattle.code.specs.Columns.{order_r}
 use Rattle.weighing.specs.Scales.{Scale}
 use Rattle.weighing.specs.declared.Weighing.{Ghosts}
 use Rattle.search.specs.declared.Entry.{Entry}
 use Rattle.search.specs.declared.FindRefusal.{FindRefusal}
 use Rattle.search.specs.declared.Found.{Found}
 use Rattle.sheet.specs.Books.{Book, empty, noted}
-use Rattle.sheet.specs.Calls.{DecodeDoes, OpenDoes, TakeDoes, WipeDoes, block_of}
+use Rattle.sheet.specs.Calls.{DecodeDoes, OpenDoes, TakeDoes, WipeDoes, block_of, open_case, open_checks}
+use Rattle.sheet.specs.declared.OpenRefusal.{OpenRefusal}
 use Rattle.sheet.specs.declared.Sheet.{Sheet}
 use Rattle.sheet.specs.declared.TakeRefusal.{TakeRefusal}
 use Rattle.sheet.specs.declared.WipeRefusal.{WipeRefusal}
+use Rattle.nearest.specs.declared.ShortRun.{ShortRun}
 
 -- how a sheet stands: the sheet itself, its tally, and the book that is kept of it
 pub record Standing {W V : Type 0} (g : Ghosts W V) : Type 0 where
@@ -78,13 +82,19 @@ module _ {V A : Type 0} (W : Type 0) (g : Ghosts W V) (s : Scale V) (reads : ℕ
     pub own : SamePlaces (block_of st.sheet) lent st.tally
     pub does : DecodeDoes s st.sheet lent target target' words words' paths paths' (Ok found)
 
-  -- An opening, a take and a decode, one after another: what each did, and the run that they make.
-  pub record ThreeCalls (octets check : ℕ) (order : List ℕ) (start : ℕ) (symbols : List ℕ) (tally tally' : List (Entry V))
-      (target target' words words' : List ℕ) (paths paths' : List (Option V))
-      (sheet : Sheet W V g) (taken : Result ℕ TakeRefusal) (found : Result (Found V) FindRefusal) : Type 0 where
+  -- An opening for one octet and a check of four bits in order R, a take and a decode, one after another: what each did, and
+  -- the run that they make.
+  pub record ThreeCalls (start : ℕ) (symbols : List ℕ) (tally tally' : List (Entry V)) (target target' words words' : List ℕ)
+      (paths paths' : List (Option V)) (run : ShortRun W A V g) : Type 0 where
     pub between : List (Entry V)
     pub new_sheet : Sheet W V g
-    pub opening : OpenDoes s octets check order tally between (Ok new_sheet)
-    pub taking : TakeDoes s reads against new_sheet sheet between tally' start symbols taken
-    pub decoding : DecodeDoes s sheet tally' target target' words words' paths paths' found
-    pub run : Run octets check order (record { sheet = sheet; tally = tally'; book = after_take empty start symbols taken })
+    pub opening : OpenDoes s 1 4 order_r tally between (Ok new_sheet)
+    pub taking : TakeDoes s reads against new_sheet run.sheet between tally' start symbols run.taken
+    pub decoding : DecodeDoes s run.sheet tally' target target' words words' paths paths' run.found
+    pub makes : Run 1 4 order_r (record { sheet = run.sheet; tally = tally'; book = after_take empty start symbols run.taken })
+
+  -- What a call does that makes these three calls: where the opening is refused it makes no other, and all is as it was.
+  abbrev pub ShortRunDoes : ℕ → List ℕ → List (Entry V) → List (Entry V) → List ℕ → List ℕ → List ℕ → List ℕ → List (Option V) → List (Option V) → Result (ShortRun W A V g) OpenRefusal → Type 0
+  ShortRunDoes start symbols tally tally' target target' words words' paths paths' r =
+      Performs (open_checks 1 4 (length tally)) open_case (ThreeCalls start symbols tally tally' target target' words words' paths paths')
+      ((tally' ≡ tally) × (target' ≡ target) × (words' ≡ words) × (paths' ≡ paths)) r

@@ -1,18 +1,23 @@
 -- An undamaged first payload decodes to what was sent. Assumes nothing.
-use Rattle.std.specs.Prelude.{◌≡◌, ℕ, ◌+◌, ◌*◌, ◌≤◌, true, List, map, length, Ok, Option, Result, MatchResult}
+use Rattle.std.specs.Prelude.{◌≡◌, ℕ, ◌+◌, ◌*◌, ◌≤◌, true, List, [], ◌∷◌, map, length, slice_index, Ok, Option, Result, MatchResult}
 use Rattle.block.specs.Bits.{bits_of, value}
 use Rattle.block.specs.Checks.{report_message}
 use Rattle.block.specs.Sizes.{block_octets, payload}
 use Rattle.code.specs.Calls.{EncodeDoes}
+use Rattle.code.specs.Columns.{order_r}
 use Rattle.weighing.specs.Hard.{hard_reads, hard_weight}
 use Rattle.weighing.specs.Scales.{counted}
 use Rattle.weighing.specs.declared.Weighing.{Ghosts}
+use Rattle.weighing.specs.declared.hard.HardSymbol.{HardSymbol}
 use Rattle.search.specs.declared.Entry.{Entry}
 use Rattle.search.specs.declared.FindRefusal.{FindRefusal}
 use Rattle.search.specs.declared.Found.{Found}
 use Rattle.sheet.specs.Calls.{DecodeDoes, OpenDoes, TakeDoes}
 use Rattle.sheet.specs.declared.Sheet.{Sheet}
 use Rattle.sheet.specs.declared.TakeRefusal.{TakeRefusal}
+use Rattle.nearest.specs.Runs.{ThreeCalls}
+use Rattle.nearest.specs.declared.Echo.{Echo}
+use Rattle.nearest.specs.declared.ShortRun.{ShortRun}
 
 -- each bit of the first octets of a buffer as one hard symbol, 0 or 1
 abbrev pub heard : List ℕ → ℕ → List ℕ
@@ -38,3 +43,25 @@ DecodesWhatWasSent W g =
     × ((target target' words words' : List ℕ) (paths paths' : List (Option ℕ)) (found : Result (Found ℕ) FindRefusal)
     → block_octets (length report) check ≤ length target → 8 * block_octets (length report) check ≤ length words → 32 ≤ length paths
     → DecodeDoes counted sheet taken target target' words words' paths paths' found → NamesSent report check target' found)
+
+-- What comes back of a report of one octet with a check of four bits: it is encoded in order R, a short run takes its first
+-- payload by the hard reading from octet 0 on, and its decode is performed; the echo is what that answers, and the octet that it names.
+pub record EchoOf (W : Type 0) (g : Ghosts W ℕ) (report k : ℕ) (echo : Echo) : Type 0 where
+  pub before : List ℕ
+  pub buffer : List ℕ
+  pub tally : List (Entry ℕ)
+  pub tally' : List (Entry ℕ)
+  pub target : List ℕ
+  pub target' : List ℕ
+  pub words : List ℕ
+  pub words' : List ℕ
+  pub paths : List (Option ℕ)
+  pub paths' : List (Option ℕ)
+  pub run : ShortRun W HardSymbol ℕ g
+  pub found : Found ℕ
+  pub encoding : EncodeDoes (report ∷ []) 4 order_r before buffer (Ok tt)
+  pub calls : ThreeCalls W g counted hard_reads hard_weight 0 (heard buffer (payload 1 4 k)) tally tally' target target' words words' paths paths' run
+  pub performed : run.found ≡ Ok found
+  pub octet_is : echo.octet ≡ slice_index target' 0
+  pub weight_is : echo.weight ≡ found.weight
+  pub verdict_is : echo.check_fits ≡ found.check_fits

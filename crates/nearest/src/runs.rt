@@ -1,9 +1,5 @@
 // The theorem on runs, with a short run by the calls themselves.
-ghost use Rattle.std.specs.Prelude.{◌≡◌, length};
-ghost use Rattle.block.specs.Refusals.{Performs};
-ghost use Rattle.code.specs.Columns.{order_r};
-ghost use Rattle.sheet.specs.Calls.{open_case, open_checks};
-ghost use Rattle.nearest.specs.Runs.{ThreeCalls};
+ghost use Rattle.nearest.specs.Runs.{ShortRunDoes};
 ghost use Rattle.nearest.specs.Whole.{NearestMessage};
 
 use crate::ShortRun;
@@ -25,7 +21,7 @@ pub fn nearest_message<R: Reading>(
     paths: &mut [Option<R::Value>],
 ) -> Result<ShortRun<R>, OpenRefusal>
     ensures theorem { NearestMessage R R.Weighing R.Weighing.scale R.Reading.reads R.Reading.against }
-    ensures run { Performs (open_checks 1 4 (length tally.old)) open_case (λ run. ThreeCalls R R.Weighing R.Weighing.scale R.Reading.reads R.Reading.against 1 4 order_r start octets.now tally.old tally.new target.old target.new survivors.old survivors.new paths.old paths.new run.sheet run.taken run.found) ((tally.new ≡ tally.old) × (target.new ≡ target.old) × (survivors.new ≡ survivors.old) × (paths.new ≡ paths.old)) result }
+    ensures run { ShortRunDoes R R.Weighing R.Weighing.scale R.Reading.reads R.Reading.against start octets.now tally.old tally.new target.old target.new survivors.old survivors.new paths.old paths.new result }
 {
     let mut sheet = Sheet::<R>::open(1, 4, Order::order_r(), tally)?;
     let taken = sheet.take(tally, start, octets);

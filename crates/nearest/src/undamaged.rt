@@ -2,7 +2,7 @@
 ghost use Rattle.std.specs.Prelude.{◌≡◌, true};
 ghost use Rattle.block.specs.Refusals.{Answers};
 ghost use Rattle.block.specs.Sizes.{plan_case, plan_checks};
-ghost use Rattle.nearest.specs.Undamaged.{DecodesWhatWasSent, heard};
+ghost use Rattle.nearest.specs.Undamaged.{DecodesWhatWasSent, EchoOf, heard};
 
 use crate::{Echo, nearest_message};
 use block::{PlanRefusal, bit_at, plan};
@@ -24,6 +24,7 @@ fn hear(buffer: &[u8; 8]) -> [u8; 64]
 // The call itself tries it on a report of one octet with a check of four bits in order R, and answers what comes back.
 pub fn undamaged_payload(report: u8, k: usize) -> Result<Echo, PlanRefusal>
     ensures theorem { DecodesWhatWasSent Hard ⟦<Hard as Weighing>⟧ }
+    ensures calls { Answers (plan_checks 1 4 k) plan_case (EchoOf Hard ⟦<Hard as Weighing>⟧ report k) result }
     ensures echo { Answers (plan_checks 1 4 k) plan_case (λ e. (e.octet ≡ report) × (e.weight ≡ 0) × (e.check_fits ≡ true)) result }
 {
     let octets = plan(1, 4, k)?;

@@ -8,5 +8,5 @@ returns-in_err-sheet-clause-theorem g c = whole _ _ _ _ _
 pub returns : goal.returns
 returns g c = record {
   theorem = whole _ _ _ _ _;
-  run = (c.in_ok-sheet.ensures.0, three_calls _ _ _ _ _ c.order_r.result.columns c.open.new.tally c.in_ok-sheet.sheet c.order_r.ensures c.in_ok-sheet.ensures c.take-taken.ensures c.decode-found.ensures);
+  run = (c.in_ok-sheet.ensures.0, three_calls _ _ _ _ _ (record { sheet = c.take-taken.new.self; taken = c.take-taken.result; found = c.decode-found.result }) c.order_r.result.columns c.open.new.tally c.in_ok-sheet.sheet c.order_r.ensures c.in_ok-sheet.ensures c.take-taken.ensures c.decode-found.ensures);
 }
