@@ -10,7 +10,7 @@ use code::{Order, encode_report};
 use search::Entry;
 use std::array;
 use weighing::hard::Hard;
-use weighing::{Reading, Weighing};
+use weighing::Weighing;
 
 // Each bit of a buffer of eight octets as one symbol.
 fn hear(buffer: &[u8; 8]) -> [u8; 64]
