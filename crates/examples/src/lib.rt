@@ -3,6 +3,8 @@
 
 #[cfg(test)]
 mod hearing;
+#[cfg(test)]
+mod refused;
 
 #[cfg(test)]
 mod tests {
@@ -20,6 +22,7 @@ mod tests {
     #[test]
     fn lengths(rt: HostRuntime) {
         assert_eq!(rt; plan(1, 4, 5), Ok(4));
+        assert_eq!(rt; plan(1, 4, 16), Ok(6));
         assert_eq!(rt; plan(47, 20, 2), Ok(63));
         assert_eq!(rt; plan(512, 28, 24), Ok(2064));
         assert_eq!(rt; back(5, 4, 2), Ok(3));
