@@ -9,8 +9,8 @@ use block::{PlanRefusal, bit_at, plan};
 use code::{Order, encode_report};
 use search::Entry;
 use std::array;
-use weighing::hard::Hard;
 use weighing::Weighing;
+use weighing::hard::Hard;
 
 // Each bit of a buffer of eight octets as one symbol.
 fn hear(buffer: &[u8; 8]) -> [u8; 64]
