@@ -1,5 +1,5 @@
 -- A report of one octet that comes back undamaged. Assumes nothing.
-use Rattle.std.proofs.Common.{◌≡◌, ℕ, ◌+◌, ◌*◌, ◌/◌, ◌%◌, ◌<◌, ◌≤◌, Bool, true, false, eqb, List, [], ◌∷◌, ◌++◌, get_or, drop, length, Ok, Err, None, Option, Result, MatchResult, refl, ap, ◌∙◌, arith, rules}
+use Rattle.std.proofs.Common.{◌≡◌, ℕ, ◌+◌, ◌*◌, ◌/◌, ◌%◌, ◌<◌, ◌≤◌, Bool, false, eqb, List, [], ◌∷◌, ◌++◌, get_or, drop, length, Ok, Err, None, Option, Result, refl, ap, ◌∙◌, arith, rules}
 use Rattle.std.proofs.lemmas.List.{get_or_append_left}
 use Rattle.std.proofs.lemmas.List.FromFn.{get_or-map-range_with_len, length-map-range_with_len}
 use Rattle.std.proofs.lemmas.Bool.{eqb-true}
@@ -22,7 +22,7 @@ use Rattle.search.specs.declared.FindRefusal.{FindRefusal}
 use Rattle.search.specs.declared.Found.{Found}
 use Rattle.nearest.specs.Runs.{ThreeCalls}
 use Rattle.nearest.specs.declared.ShortRun.{ShortRun}
-use Rattle.nearest.specs.Undamaged.{NamesSent, heard}
+use Rattle.nearest.specs.Undamaged.{GivesBack, NamesSent, heard}
 use Rattle.nearest.proofs.Fitting.{own_bit}
 use Rattle.nearest.proofs.Sent.{decodes_what_was_sent}
 use Rattle.nearest.proofs.Taken.{at_opening}
@@ -58,23 +58,19 @@ own_octet x small target target' mine long is written =
 pub rate_of : (octets check k : ℕ) → first_refusal (plan_checks octets check k) ≡ None → k ≤ 24
 rate_of octets check k e = search rules
 
--- what comes back: the octet that was sent, with weight 0 and a check that fits
-abbrev pub Echoes : ℕ → List ℕ → Result (Found ℕ) FindRefusal → Type 0
-Echoes x target answer = MatchResult answer (λ found. (get_or target 0 0 ≡ x) × (found.weight ≡ 0) × (found.check_fits ≡ true)) (λ e. ⊥)
-
 -- what is named, by the octet that is written for it
-echo_named : (x : ℕ) → x < 256 → (order : List ℕ) (tally : List (Entry ℕ)) (target target' words words' : List ℕ) (paths paths' : List (Option ℕ)) (answer : Result (Found ℕ) FindRefusal)
-    → FindDoes counted 1 4 order tally target target' words words' paths paths' answer → NamesSent (x ∷ []) 4 target' answer → Echoes x target' answer
-echo_named x small order tally target target' words words' paths paths' (Ok found) find sent =
+back_named : (x : ℕ) → x < 256 → (order : List ℕ) (tally : List (Entry ℕ)) (target target' words words' : List ℕ) (paths paths' : List (Option ℕ)) (answer : Result (Found ℕ) FindRefusal)
+    → FindDoes counted 1 4 order tally target target' words words' paths paths' answer → NamesSent (x ∷ []) 4 target' answer → GivesBack x target' answer
+back_named x small order tally target target' words words' paths paths' (Ok found) find sent =
     (own_octet x small target target' (bits_of target' 12) (length-map-range_with_len (bit_at target') 0 12) sent.0 find.1.0.written, sent.1, sent.2)
-echo_named x small order tally target target' words words' paths paths' (Err e) find sent = sent
+back_named x small order tally target target' words words' paths paths' (Err e) find sent = sent
 
-pub echoes : {W : Type 0} {g : Ghosts W ℕ} (x k : ℕ) → x < 256 → k ≤ 24 → (before buffer : List ℕ) → EncodeDoes (x ∷ []) 4 order_r before buffer (Ok tt)
+pub gives_back : {W : Type 0} {g : Ghosts W ℕ} (x k : ℕ) → x < 256 → k ≤ 24 → (before buffer : List ℕ) → EncodeDoes (x ∷ []) 4 order_r before buffer (Ok tt)
     → {tally tally' : List (Entry ℕ)} {target target' words words' : List ℕ} {paths paths' : List (Option ℕ)} (run : ShortRun W HardSymbol ℕ g)
     → 2 ≤ length target → 16 ≤ length words → 32 ≤ length paths
-    → ThreeCalls W g counted hard_reads hard_weight 0 (heard buffer (payload 1 4 k)) tally tally' target target' words words' paths paths' run → Echoes x target' run.found
-echoes {W} {g} x k small rate before buffer encode {tally} {tally'} {target} {target'} {words} {words'} {paths} {paths'} run a b c calls =
+    → ThreeCalls W g counted hard_reads hard_weight 0 (heard buffer (payload 1 4 k)) tally tally' target target' words words' paths paths' run → GivesBack x target' run.found
+gives_back {W} {g} x k small rate before buffer encode {tally} {tally'} {target} {target'} {words} {words'} {paths} {paths'} run a b c calls =
     let sent =
     (decodes_what_was_sent W g (x ∷ []) 4 k order_r before buffer rate encode tally calls.between tally' calls.new_sheet run.sheet run.taken calls.opening calls.taking).1 target target' words words' paths paths' run.found a b c calls.decoding in
-    echo_named x small order_r tally' target target' words words' paths paths' run.found
+    back_named x small order_r tally' target target' words words' paths paths' run.found
     (at_opening 1 4 order_r tally calls.between tally' calls.new_sheet run.sheet 0 (heard buffer (payload 1 4 k)) run.taken calls.opening calls.taking target target' words words' paths paths' run.found calls.decoding) sent

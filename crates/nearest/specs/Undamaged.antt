@@ -2,7 +2,9 @@
 use Rattle.std.specs.Prelude.{◌≡◌, ℕ, ◌+◌, ◌*◌, ◌≤◌, true, List, [], ◌∷◌, map, length, slice_index, Ok, Option, Result, MatchResult}
 use Rattle.block.specs.Bits.{bits_of, value}
 use Rattle.block.specs.Checks.{report_message}
-use Rattle.block.specs.Sizes.{block_octets, payload}
+use Rattle.block.specs.Refusals.{Performs}
+use Rattle.block.specs.Sizes.{block_octets, payload, plan_case, plan_checks}
+use Rattle.block.specs.declared.PlanRefusal.{PlanRefusal}
 use Rattle.code.specs.Calls.{EncodeDoes}
 use Rattle.code.specs.Columns.{order_r}
 use Rattle.weighing.specs.Hard.{hard_reads, hard_weight}
@@ -16,7 +18,6 @@ use Rattle.sheet.specs.Calls.{DecodeDoes, OpenDoes, TakeDoes}
 use Rattle.sheet.specs.declared.Sheet.{Sheet}
 use Rattle.sheet.specs.declared.TakeRefusal.{TakeRefusal}
 use Rattle.nearest.specs.Runs.{ThreeCalls}
-use Rattle.nearest.specs.declared.Echo.{Echo}
 use Rattle.nearest.specs.declared.ShortRun.{ShortRun}
 
 -- each bit of the first octets of a buffer as one hard symbol, 0 or 1
@@ -44,24 +45,22 @@ DecodesWhatWasSent W g =
     → block_octets (length report) check ≤ length target → 8 * block_octets (length report) check ≤ length words → 32 ≤ length paths
     → DecodeDoes counted sheet taken target target' words words' paths paths' found → NamesSent report check target' found)
 
--- What comes back of a report of one octet with a check of four bits: it is encoded in order R, a short run takes its first
--- payload by the hard reading from octet 0 on, and its decode is performed; the echo is what that answers, and the octet that it names.
-pub record EchoOf (W : Type 0) (g : Ghosts W ℕ) (report k : ℕ) (echo : Echo) : Type 0 where
-  pub before : List ℕ
-  pub buffer : List ℕ
-  pub tally : List (Entry ℕ)
-  pub tally' : List (Entry ℕ)
-  pub target : List ℕ
-  pub target' : List ℕ
-  pub words : List ℕ
-  pub words' : List ℕ
-  pub paths : List (Option ℕ)
-  pub paths' : List (Option ℕ)
-  pub run : ShortRun W HardSymbol ℕ g
-  pub found : Found ℕ
-  pub encoding : EncodeDoes (report ∷ []) 4 order_r before buffer (Ok tt)
-  pub calls : ThreeCalls W g counted hard_reads hard_weight 0 (heard buffer (payload 1 4 k)) tally tally' target target' words words' paths paths' run
-  pub performed : run.found ≡ Ok found
-  pub octet_is : echo.octet ≡ slice_index target' 0
-  pub weight_is : echo.weight ≡ found.weight
-  pub verdict_is : echo.check_fits ≡ found.check_fits
+-- what a decode answers and leaves that gives a report of one octet back, with weight 0 and a check that fits
+abbrev pub GivesBack : ℕ → List ℕ → Result (Found ℕ) FindRefusal → Type 0
+GivesBack report target r =
+    MatchResult r (λ found. (slice_index target 0 ≡ report) × (found.weight ≡ 0) × (found.check_fits ≡ true)) (λ e. ⊥)
+
+-- A report of one octet with a check of four bits is encoded in order R, and a short run takes its first payload by the hard
+-- reading from octet 0 on: what the calls did, and that the report comes back.
+pub record UndamagedRun (W : Type 0) (g : Ghosts W ℕ) (report k : ℕ) (buffer buffer' : List ℕ) (tally tally' : List (Entry ℕ))
+    (target target' words words' : List ℕ) (paths paths' : List (Option ℕ)) (run : ShortRun W HardSymbol ℕ g) : Type 0 where
+  pub encoding : EncodeDoes (report ∷ []) 4 order_r buffer buffer' (Ok tt)
+  pub calls : ThreeCalls W g counted hard_reads hard_weight 0 (heard buffer' (payload 1 4 k)) tally tally' target target' words words' paths paths' run
+  pub back : GivesBack report target' run.found
+
+-- What the call does that makes such a run: where the rate is refused it makes no call, and all is as it was.
+abbrev pub UndamagedDoes : (W : Type 0) → (g : Ghosts W ℕ) → ℕ → ℕ → List ℕ → List ℕ → List (Entry ℕ) → List (Entry ℕ) → List ℕ → List ℕ → List ℕ → List ℕ → List (Option ℕ) → List (Option ℕ)
+    → Result (ShortRun W HardSymbol ℕ g) PlanRefusal → Type 0
+UndamagedDoes W g report k buffer buffer' tally tally' target target' words words' paths paths' r =
+    Performs (plan_checks 1 4 k) plan_case (UndamagedRun W g report k buffer buffer' tally tally' target target' words words' paths paths')
+    ((buffer' ≡ buffer) × (tally' ≡ tally) × (target' ≡ target) × (words' ≡ words) × (paths' ≡ paths)) r

@@ -1,4 +1,4 @@
-// What holds of whole runs of sheets and senders, for every reading.
+// What holds of whole runs of sheets and senders, for every reading, and of an undamaged payload by the hard one.
 #![tactic(auto)]
 
 mod runs;
@@ -18,12 +18,4 @@ pub struct ShortRun<R: Reading> {
     pub sheet: Sheet<R>,
     pub taken: Result<usize, TakeRefusal>,
     pub found: Result<Found<R::Value>, FindRefusal>,
-}
-
-// What comes back of a report of one octet: the octet that the decode names, its weight, and whether its check fits.
-#[derive(Clone, Copy, Debug, PartialEq)]
-pub struct Echo {
-    pub octet: u8,
-    pub weight: u32,
-    pub check_fits: bool,
 }

@@ -1,20 +1,30 @@
 // A payload that comes back, and a run that is refused at its opening.
-use crate::{Echo, nearest_message, undamaged_payload};
+use crate::{nearest_message, undamaged_payload};
 use block::PlanRefusal;
 use search::Entry;
 use sheet::OpenRefusal;
 use weighing::soft::Soft;
 
+// What an undamaged payload names: the octet and its weight.
+fn echo(report: u8, k: usize) -> Result<Option<(u8, u32)>, PlanRefusal> {
+    let mut target = [0; 2];
+    let run = undamaged_payload(
+        report,
+        k,
+        &mut [0; 8],
+        &mut [Entry { zero: 7, one: 7 }; 64],
+        &mut target,
+        &mut [0; 16],
+        &mut [None; 32],
+    )?;
+    Ok(run.found.ok().map(|found| (target[0], found.weight)))
+}
+
 #[test]
 fn an_undamaged_payload_comes_back(rt: HostRuntime) {
-    let echo = Echo {
-        octet: 0x81,
-        weight: 0,
-        check_fits: true,
-    };
-    assert_eq!(rt; undamaged_payload(0x81, 0), Ok(echo));
-    assert_eq!(rt; undamaged_payload(0x81, 24), Ok(echo));
-    assert_eq!(rt; undamaged_payload(0x81, 25), Err(PlanRefusal::Rate));
+    assert_eq!(rt; echo(0x81, 0), Ok(Some((0x81, 0))));
+    assert_eq!(rt; echo(0x81, 24), Ok(Some((0x81, 0))));
+    assert_eq!(rt; echo(0x81, 25), Err(PlanRefusal::Rate));
 }
 
 #[test]
