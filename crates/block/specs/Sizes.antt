@@ -36,7 +36,7 @@ abbrev pub size_case : SizeRefusal → Case
 size_case Octets = numbered 1
 size_case CheckLength = numbered 2
 
--- of a plan's, a refusal for the size stands for what it stands for by itself
+-- the cases of the refusal of a plan, where one for the size has that refusal's own case
 abbrev pub plan_case : PlanRefusal → Case
 plan_case (Size e) = size_case e
 plan_case Rate = numbered 3

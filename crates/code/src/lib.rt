@@ -77,7 +77,7 @@ pub struct Peeked {
     pub tail_fits: bool,
 }
 
-// The order in which the 24 columns fill the buffer behind the message's own bits.
+// The order in which the 24 columns fill the buffer behind output 1.
 #[derive(Clone, Copy, Debug)]
 pub struct Order {
     columns: [u8; 24],

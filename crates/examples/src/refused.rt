@@ -23,7 +23,7 @@ fn orders(rt: HostRuntime) -> Result<(), Fail> {
     Ok(())
 }
 
-// The checks of a take, each where those before it pass; 64 places, of which none is written.
+// The checks of a take, each where those before it pass; of the 64 places a refused take writes none.
 #[test]
 fn takes(rt: HostRuntime) -> Result<(), Fail> {
     let mut tally = [EMPTY; 64];

@@ -1,5 +1,6 @@
 -- Runs of a sheet: it is opened on a tally, and takes, decodes and wipes then follow, performed or refused in any mix.
--- Each step is what the call's contract says, and the book is moved by what the call was handed. Assumes nothing.
+-- Each step is what the call's contract says, and the book is moved by what the call was handed. At the end stands what a short
+-- run is that a call makes. Assumes nothing.
 use Rattle.std.specs.Prelude.{◌≡◌, ℕ, ◌*◌, Bool, List, length, take, Ok, Err, Option, Result}
 use Rattle.block.specs.Refusals.{Performs}
 use Rattle.code.specs.Columns.{order_r}

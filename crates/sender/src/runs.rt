@@ -1,15 +1,15 @@
 // A short run of a sender by the calls themselves.
-ghost use Rattle.std.specs.Prelude.{◌≡◌, Err};
-ghost use Rattle.sender.specs.Passages.{sent};
+ghost use Rattle.std.specs.Prelude.{◌≡◌};
+ghost use Rattle.block.specs.Refusals.{Answers};
+ghost use Rattle.sender.specs.Passages.{copy_checks, passage_case, sent};
 ghost use Rattle.sender.specs.Runs.{Run};
-ghost use Rattle.sender.specs.declared.PassageRefusal.TheVariants.{Count};
 
 use crate::{Passage, Sender, ShortRun};
 
 // A copy of no octet is refused, and three octets are then copied and confirmed; two more are copied and given up.
 pub fn short_run(buffer: &[u8; 8], kept: &mut [u8; 3], given_up: &mut [u8; 2]) -> ShortRun
     ensures run { Run 1 4 buffer.now result.sender.cursor kept.new 3 }
-    ensures refused { result.refused ≡ Err Count }
+    ensures refused { Answers (copy_checks 8 8 3 0) passage_case (λ _. ⊥) result.refused }
     ensures kept { kept.new ≡ sent buffer.now 8 0 3 }
     ensures given_up { given_up.new ≡ sent buffer.now 8 3 2 }
     ensures sender { (result.sender.size.octets ≡ 1) × (result.sender.size.check ≡ 4) × (result.sender.cursor ≡ 3) }

@@ -22,7 +22,7 @@ use Rattle.sheet.specs.declared.TakeRefusal.TheVariants.{Tally, Start, Count, Fu
 abbrev pub most_symbols : ℕ
 most_symbols = 1048576
 
--- the cases of each refusal: of an opening's, a refusal for the size stands for what it stands for by itself
+-- the cases of the refusal of an opening, where one for the size has that refusal's own case
 abbrev pub open_case : OpenRefusal → Case
 open_case (Size e) = size_case e
 open_case short_to_open = numbered 6
@@ -30,7 +30,8 @@ open_case short_to_open = numbered 6
 abbrev pub wipe_case : WipeRefusal → Case
 wipe_case short_to_wipe = numbered 6
 
--- and of a take's, an octet that is no symbol carries its index, which is that of the first that reads as none
+-- The cases of the refusal of a take. Of the octets that are no symbols one is named, by its index: `first`, that of the first
+-- octet that reads as none.
 abbrev pub take_case : Option ℕ → TakeRefusal → Case
 take_case first Tally = numbered 6
 take_case first Start = numbered 7

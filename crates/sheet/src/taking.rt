@@ -71,7 +71,7 @@ impl<R: Reading> Sheet<R> {
     }
 
     // Takes symbols, one in each octet, and lays them from octet `start` of the report's buffer on. Answers how many were
-    // taken since the opening or the last wipe. Tally, start and octets are lent and handed as the book has them, each by itself.
+    // taken since the opening or the last wipe. Start and octets are handed as the book has them, and the tally is lent by itself.
     pub fn take(
         &mut self,
         tally: &mut [Entry<R::Value>],

@@ -47,7 +47,7 @@ returns c =
     let run : Run 1 4 buffer cursor' target' 3 = given_up after begun' tried cursor' c.give_up.ensures in
     record {
       run = run;
-      refused = idle.0;
+      refused = rw idle.0 (refl, tt, tt);
       kept = run_sent 1 4 buffer cursor' target' 3 run;
       given_up = rw (ap (λ x. x.cursor) at, ap (λ x. x.round) at, drop_all 2 c.args.given_up.now (search rules)) at lost;
       sender = (made_so.1.0, made_so.1.1, (sends_in_rounds 1 4 buffer cursor' target' 3 run).stands);
