@@ -1,5 +1,5 @@
-use Rattle.std.proofs.Common.{◌≡◌, ℕ, false, get_or, arith}
-use Rattle.block.specs.Bits.{octet_of, value}
+use Rattle.std.proofs.Common.{ℕ, false, get_or, arith}
+use Rattle.block.specs.Bits.{octet_of}
 use Rattle.block.proofs.Bools.{worth}
 use Rattle.block.proofs.bits.octet.Goals as goal
 
