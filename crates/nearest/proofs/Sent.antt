@@ -30,7 +30,7 @@ use Rattle.nearest.specs.Undamaged.{DecodesWhatWasSent, NamesSent, heard}
 use Rattle.nearest.proofs.Fitting.{report_fits}
 use Rattle.nearest.proofs.Heard.{own_weighs, sum_hit, sum_miss, weighs, weighs_own}
 use Rattle.nearest.proofs.Inverse.{place_back}
-use Rattle.nearest.proofs.Keeping.{opened_room}
+use Rattle.nearest.proofs.Keeping.{block_is, opened_room}
 use Rattle.nearest.proofs.Taken.{at_opening, heard_length, heard_passes, taken_all}
 use Rattle.nearest.proofs.Zeros.{added_none, first_zero, only_zero}
 
@@ -170,7 +170,7 @@ module _ (W : Type 0) (g : Ghosts W ℕ) where
       let made = opens.1 in
       let p = payload octets check k in
       let symbols = heard buffer p in
-      let same : block_of new_sheet ≡ n = λ i. block_octets (made.octets_are i) (made.check_is i) in
+      let same : block_of new_sheet ≡ n = block_is new_sheet made.octets_are made.check_is in
       let size : 8 * octets + check + 4 ≡ 8 * n = omega (arith, made.octets_are, made.check_is, new_sheet.size.odd_half) in
       let is : is_order order ≡ true = cc (made.order_is, new_sheet.order.each) in
       let long = payload_long octets check k rate in

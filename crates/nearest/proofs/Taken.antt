@@ -1,5 +1,5 @@
 -- The bits that are heard of a payload are taken onto a new sheet. Assumes nothing.
-use Rattle.std.proofs.Common.{◌≡◌, ℕ, suc, ◌+◌, ◌*◌, ◌<◌, ◌≤◌, Bool, true, false, List, [], ◌∷◌, map, take, get_or, length, Ok, Err, None, Option, Result, sym, refl, ap, ◌∙◌, subst, arith}
+use Rattle.std.proofs.Common.{◌≡◌, ℕ, suc, ◌+◌, ◌*◌, ◌<◌, ◌≤◌, Bool, true, false, List, [], ◌∷◌, map, take, get_or, length, Ok, Err, None, Option, Result, sym, refl, ap, ◌∙◌, arith}
 use Rattle.std.specs.Option.{option_map}
 use Rattle.std.proofs.lemmas.List.{ext_get_or, get_or-map, length-map, take-map}
 use Rattle.std.proofs.lemmas.List.FromFn.{get_or-map-range_with_len, length-map-range_with_len, take-map-range_with_len}
@@ -20,6 +20,7 @@ use Rattle.sheet.specs.Calls.{DecodeDoes, Laid, OpenDoes, TakeDoes, block_of, ta
 use Rattle.sheet.specs.declared.Sheet.{Sheet}
 use Rattle.sheet.specs.declared.TakeRefusal.{TakeRefusal}
 use Rattle.nearest.specs.Undamaged.{heard}
+use Rattle.nearest.proofs.Keeping.{finds_at}
 
 pub heard_length : (buffer : List ℕ) (octets : ℕ) → length (heard buffer octets) ≡ 8 * octets
 heard_length buffer octets = length-map (bits_of buffer (8 * octets)) value ∙ length-map-range_with_len (bit_at buffer) 0 (8 * octets)
@@ -82,6 +83,5 @@ module _ {W : Type 0} {g : Ghosts W ℕ} where
       let made = opens.1 in
       let size = size_stays new_sheet sheet opened taken start symbols took take in
       let same = order_stays new_sheet sheet opened taken start symbols took take in
-      subst (λ cs. FindDoes counted octets check cs taken target target' words words' paths paths' r) (ap (λ (x : Order). x.columns) same ∙ made.order_is)
-      (subst (λ c. FindDoes counted octets c sheet.order.columns taken target target' words words' paths paths' r) (ap (λ (x : Size). x.check) size ∙ made.check_is)
-      (subst (λ o. FindDoes counted o sheet.size.check sheet.order.columns taken target target' words words' paths paths' r) (ap (λ (x : Size). x.octets) size ∙ made.octets_are) decode))
+      finds_at counted (ap (λ (x : Size). x.octets) size ∙ made.octets_are) (ap (λ (x : Size). x.check) size ∙ made.check_is) (ap (λ (x : Order). x.columns) same ∙ made.order_is)
+      taken target target' words words' paths paths' r decode

@@ -32,7 +32,7 @@ NamesSent report check target r =
     (λ e. ⊥)
 
 -- A report is encoded; its first payload at any rate is taken by the hard reading, from octet 0, onto a new sheet of its
--- size and order. Then the take is performed, and each decode that is lent room enough names the message sent.
+-- size and order. Then the take is performed, and each decode right after it that is lent room enough names the message sent.
 abbrev pub DecodesWhatWasSent : (W : Type 0) → Ghosts W ℕ → Type 0
 DecodesWhatWasSent W g =
     (report : List ℕ) (check k : ℕ) (order before buffer : List ℕ) → k ≤ 24
