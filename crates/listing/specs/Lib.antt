@@ -1,0 +1,3 @@
+pub mod Captures
+pub mod Faults
+pub mod Lines

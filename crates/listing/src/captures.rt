@@ -1,0 +1,157 @@
+// Reading the records of a capture.
+ghost use Rattle.std.specs.Prelude.{◌≡◌, ◌<◌, ◌≤◌, false, length, MatchOption, [], ◌∷◌};
+ghost use Rattle.listing.specs.Captures.{acts, asks, cut_short, layout, left, octet as octet_at, opens, starts, two, takes, decodes, wipes, unknown};
+
+use crate::{Act, Acts, Layout};
+use block::bit_of;
+
+// The octet at a place of a capture, and 0 behind the end.
+fn octet(capture: &[u8], place: usize) -> u8
+    ensures { result ≡ octet_at capture.now place }
+{
+    capture.get(place).copied().unwrap_or(0)
+}
+
+// The number of two octets that begins at a place, the low octet first.
+fn number(capture: &[u8], place: usize) -> usize
+    requires { place ≤ 100000 }
+    ensures { result ≡ two capture.now place }
+{
+    usize::from(octet(capture, place)) + 256 * usize::from(octet(capture, place + 1))
+}
+
+// The bits of a map.
+#[derive(Clone, Copy)]
+struct Map(u8);
+
+impl Map {
+    fn opens(self) -> bool
+        ensures { result ≡ opens self.0 }
+    {
+        bit_of(u32::from(self.0), 0)
+    }
+
+    fn starts(self) -> bool
+        ensures { result ≡ starts self.0 }
+    {
+        bit_of(u32::from(self.0), 1)
+    }
+
+    fn takes(self) -> bool
+        ensures { result ≡ takes self.0 }
+    {
+        bit_of(u32::from(self.0), 2)
+    }
+
+    fn decodes(self) -> bool
+        ensures { result ≡ decodes self.0 }
+    {
+        bit_of(u32::from(self.0), 3)
+    }
+
+    fn wipes(self) -> bool
+        ensures { result ≡ wipes self.0 }
+    {
+        bit_of(u32::from(self.0), 4)
+    }
+
+    // A map with a bit that stands for nothing, or with a start and no take.
+    fn unknown(self) -> bool
+        ensures { result ≡ unknown self.0 }
+    {
+        self.0 >= 32 || self.starts() && !self.takes()
+    }
+}
+
+impl Layout {
+    // The layout of the record at a place.
+    fn of(capture: &[u8], place: usize) -> Layout
+        requires { place ≤ 32768 }
+        ensures { result ≡ layout capture.now place }
+    {
+        let map = Map(octet(capture, place));
+        let start = place + 1 + if map.opens() { 3 } else { 0 };
+        let count = start + if map.starts() { 2 } else { 0 };
+        let symbols = count + 2;
+        Layout {
+            map: place,
+            size: place + 1,
+            start,
+            count,
+            symbols,
+            end: if map.takes() {
+                symbols + number(capture, count)
+            } else {
+                start
+            },
+        }
+    }
+}
+
+impl<'a> Acts<'a> {
+    // No acts.
+    pub(crate) fn none() -> Acts<'a>
+        ensures { left result ≡ [] }
+    {
+        Acts {
+            open: None,
+            take: None,
+            decode: None,
+            wipe: None,
+        }
+    }
+
+    // The acts of the record with this layout.
+    fn of(capture: &'a [u8], at: Layout) -> Acts<'a>
+        requires place { at.map ≤ 32768 }
+        requires layout { at ≡ layout capture.now at.map }
+        requires whole { at.end ≤ length capture.now }
+        ensures { left result ≡ acts capture.now at.map }
+    {
+        let map = Map(octet(capture, at.map));
+        // no `then` with a closure: of its body no proof knows the layout
+        let open = if map.opens() {
+            Some(Act::Open {
+                octets: number(capture, at.size),
+                check: usize::from(octet(capture, at.size + 2)),
+            })
+        } else {
+            None
+        };
+        let start = if map.starts() {
+            Some(number(capture, at.start))
+        } else {
+            None
+        };
+        let take = if map.takes() {
+            Some(Act::Take {
+                start,
+                symbols: &capture[at.symbols..at.end],
+            })
+        } else {
+            None
+        };
+        Acts {
+            open,
+            take,
+            decode: map.decodes().then_some(Act::Decode),
+            wipe: map.wipes().then_some(Act::Wipe),
+        }
+    }
+
+    // The next act, which is then no longer to be carried out.
+    pub(crate) fn next(&mut self) -> Option<Act<'a>>
+        ensures { MatchOption result ((left self.old ≡ []) × (left self.new ≡ [])) (λ act. left self.old ≡ asks act ∷ left self.new) }
+    {
+        if self.open.is_some() {
+            return self.open.take();
+        }
+        if self.take.is_some() {
+            return self.take.take();
+        }
+        if self.decode.is_some() {
+            return self.decode.take();
+        }
+        self.wipe.take()
+    }
+}

@@ -1,0 +1,101 @@
+// The listing of a capture: which records it has, which acts each asks for, and the lines that tell what comes of them.
+#![tactic(auto)]
+
+ghost use Rattle.std.specs.Prelude.{◌≤◌};
+
+mod captures;
+mod faults;
+mod lines;
+
+use search::Found;
+use sheet::{OpenRefusal, TakeRefusal};
+
+// An act that a record asks for. A rule of the project: a take borrows its symbols from the capture.
+#[derive(Clone, Copy, Debug, PartialEq)]
+pub enum Act<'a> {
+    Open {
+        octets: usize,
+        check: usize,
+    },
+    Take {
+        // none where the record has no start field
+        start: Option<usize>,
+        symbols: &'a [u8],
+    },
+    Decode,
+    Wipe,
+}
+
+// Where the fields of a record begin: the map, the size (T, and behind it L), the start, the count and the symbols; and
+// where the next record begins. An absent field has the place at which it would begin.
+#[derive(Clone, Copy, Debug, PartialEq)]
+pub struct Layout {
+    pub map: usize,
+    pub size: usize,
+    pub start: usize,
+    pub count: usize,
+    pub symbols: usize,
+    pub end: usize,
+}
+
+// The acts of a record that are still to be carried out.
+#[derive(Clone, Copy, Debug, PartialEq)]
+pub struct Acts<'a> {
+    open: Option<Act<'a>>,
+    take: Option<Act<'a>>,
+    decode: Option<Act<'a>>,
+    wipe: Option<Act<'a>>,
+}
+
+// The part of the reader that a fault comes from: the listing itself, the sheet, or the reading.
+#[derive(Clone, Copy, Debug, PartialEq)]
+pub enum Layer {
+    Listing,
+    Sheet,
+    Reading,
+}
+
+// What keeps a record, or the whole capture, from being carried out; each with the place that it is about.
+#[derive(Clone, Copy, Debug, PartialEq)]
+pub enum Fault {
+    // the capture has more octets than are read
+    TooLong,
+    // its first octet names no reading
+    Letter,
+    // the map has a bit that stands for nothing, or a start and no take
+    Unknown { place: usize },
+    // the record would end behind the capture's end
+    CutShort { place: usize },
+    // an act before any sheet
+    NoSheet { place: usize },
+    // a refused opening
+    Open { place: usize, refusal: OpenRefusal },
+    // a refused take
+    Take { place: usize, refusal: TakeRefusal },
+}
+
+// The message that a decode named: the target as the decode left it, and how many of its octets, the first, are the report's.
+#[derive(Clone, Copy)]
+pub struct Message {
+    block: [u8; 516],
+    octets: usize,
+    ghost few: { octets ≤ 512 },
+}
+
+// A line of the listing.
+#[derive(Clone, Copy, Drop)]
+pub enum Line<V> {
+    Decoded {
+        record: usize,
+        found: Found<V>,
+        message: Message,
+    },
+    Faulty {
+        record: usize,
+        fault: Fault,
+    },
+    // the end, with the number of records that were read whole
+    End {
+        records: usize,
+    },
+}
