@@ -1,5 +1,5 @@
 -- A capture and its records. Assumes nothing.
-use Rattle.std.specs.Prelude.{◌≡◌, ℕ, ◌+◌, ◌*◌, Bool, cond, not, ◌&&◌, ◌||◌, List, [], ◌∷◌, ◌++◌, length, take, drop, Some, None, Option, nat_le, nat_lt, slice_index_or}
+use Rattle.std.specs.Prelude.{◌≡◌, ℕ, ◌+◌, ◌*◌, Bool, false, cond, not, ◌&&◌, ◌||◌, List, [], ◌∷◌, ◌++◌, length, take, drop, Some, None, Option, nat_le, nat_lt, ◌==◌, slice_index_or}
 use Rattle.block.specs.Bits.{bit}
 use Rattle.listing.specs.declared.Act.{Act}
 use Rattle.listing.specs.declared.Act.TheVariants.{Open, Take, Decode, Wipe}
@@ -9,6 +9,27 @@ use Rattle.listing.specs.declared.Layout.{Layout}
 -- a capture has at most this many octets
 abbrev pub most_octets : ℕ
 most_octets = 32768
+
+-- the letters of the readings: H, S and W
+abbrev pub hard_letter : ℕ
+hard_letter = 72
+
+abbrev pub soft_letter : ℕ
+soft_letter = 83
+
+abbrev pub worst_letter : ℕ
+worst_letter = 87
+
+-- a capture that begins with this letter
+abbrev pub is_letter : ℕ → List ℕ → Bool
+is_letter letter [] = false
+is_letter letter (first ∷ rest) = first == letter
+
+-- a capture, not too long, that begins with the letter of another reading
+abbrev pub is_of_another : ℕ → List ℕ → Bool
+is_of_another letter capture =
+    nat_le (length capture) most_octets
+    && (not (is_letter letter capture) && (is_letter hard_letter capture || (is_letter soft_letter capture || is_letter worst_letter capture)))
 
 -- the octet at a place, and 0 behind the end
 abbrev pub octet : List ℕ → ℕ → ℕ
@@ -47,7 +68,8 @@ layout capture place =
     let count = start + cond (starts map) 2 0 in
     record {
       map = place;
-      size = place + 1;
+      octets = place + 1;
+      check = place + 3;
       start = start;
       count = count;
       symbols = count + 2;
@@ -80,7 +102,7 @@ abbrev pub acts : List ℕ → ℕ → List Asked
 acts capture place =
     let map = octet capture place in
     let at = layout capture place in
-    if_asked (opens map) (to_open (two capture at.size) (octet capture (at.size + 2)))
+    if_asked (opens map) (to_open (two capture at.octets) (octet capture at.check))
     ++ if_asked (takes map) (to_take (cond (starts map) (Some (two capture at.start)) None) (take (two capture at.count) (drop at.symbols capture)))
     ++ if_asked (decodes map) to_decode
     ++ if_asked (wipes map) to_wipe

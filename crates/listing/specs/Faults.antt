@@ -21,8 +21,8 @@ layer_of number = cond (number == 9) Reading (cond (nat_le 11 number) Listing Sh
 -- where the field begins that a refusal is about; `first` is the index of the first symbol that is unlawful
 abbrev pub place_of : Layout → Option ℕ → ℕ → ℕ
 place_of at first number =
-    cond (number == 1 || number == 6) at.size
-    (cond (number == 2) (at.size + 2)
+    cond (number == 1 || number == 6) at.octets
+    (cond (number == 2) at.check
     (cond (number == 7) at.start
     (cond (number == 8 || number == 10) at.count
     (cond (number == 9) (elim first [ None ↦ at.symbols | Some index ↦ at.symbols + index ]) at.map))))

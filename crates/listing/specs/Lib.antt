@@ -1,3 +1,5 @@
+pub mod Carrying
 pub mod Captures
 pub mod Faults
 pub mod Lines
+pub mod Listings

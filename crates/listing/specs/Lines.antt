@@ -1,7 +1,6 @@
 -- The lines of a listing, and their text. Assumes nothing.
 use Rattle.std.specs.Prelude.{ℕ, ◌/◌, ◌%◌, Bool, false, cond, List, [], ◌∷◌, ◌++◌, take, codes, decimal, flat_map, Some, Option}
 use Rattle.std.specs.Fmt.{digit_glyph, ◌++?◌}
-use Rattle.search.specs.declared.Found.{Found}
 use Rattle.listing.specs.Faults.{Says, fault_case}
 use Rattle.listing.specs.declared.Fault.{Fault}
 use Rattle.listing.specs.declared.Layer.{Layer}
@@ -22,7 +21,7 @@ octets_of message = take message.octets message.block
 
 -- each case of a line, and what it tells
 abbrev pub tells : {V : Type 0} → Line V → Told V
-tells (Decoded record-number found message) = a_decode record-number found.weight found.check_fits (octets_of message)
+tells (Decoded record-number named) = a_decode record-number named.weight named.check_fits (octets_of named.message)
 tells (Faulty record-number fault) = a_fault record-number (fault_case fault)
 tells (End records) = the_end records
 

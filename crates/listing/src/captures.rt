@@ -75,7 +75,8 @@ impl Layout {
         let symbols = count + 2;
         Layout {
             map: place,
-            size: place + 1,
+            octets: place + 1,
+            check: place + 3,
             start,
             count,
             symbols,
@@ -112,8 +113,8 @@ impl<'a> Acts<'a> {
         // no `then` with a closure: of its body no proof knows the layout
         let open = if map.opens() {
             Some(Act::Open {
-                octets: number(capture, at.size),
-                check: usize::from(octet(capture, at.size + 2)),
+                octets: number(capture, at.octets),
+                check: usize::from(octet(capture, at.check)),
             })
         } else {
             None

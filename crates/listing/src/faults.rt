@@ -53,12 +53,11 @@ impl Fault {
 
     // A refused opening, at the field that was refused.
     pub(crate) fn of_open(at: Layout, refusal: OpenRefusal) -> Fault
-        requires { at.size ≤ 32769 }
         ensures { fault_case result ≡ says at None (open_case refusal).number }
     {
         let place = match refusal {
-            OpenRefusal::Size(SizeRefusal::CheckLength) => at.size + 2,
-            _ => at.size,
+            OpenRefusal::Size(SizeRefusal::CheckLength) => at.check,
+            _ => at.octets,
         };
         Fault::Open { place, refusal }
     }
@@ -70,7 +69,7 @@ impl Fault {
         ensures { (first : Option ℕ) → (take_case first refusal).carries → fault_case result ≡ says at first (take_case first refusal).number }
     {
         let place = match refusal {
-            TakeRefusal::Tally => at.size,
+            TakeRefusal::Tally => at.octets,
             TakeRefusal::Start => at.start,
             TakeRefusal::Count | TakeRefusal::Full => at.count,
             TakeRefusal::Symbol(index) => at.symbols + index,

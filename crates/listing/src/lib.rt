@@ -1,14 +1,19 @@
 // The listing of a capture: which records it has, which acts each asks for, and the lines that tell what comes of them.
 #![tactic(auto)]
 
-ghost use Rattle.std.specs.Prelude.{◌≤◌};
+ghost use Rattle.std.specs.Prelude.{ℕ, ◌*◌, ◌≤◌, length};
+ghost use Rattle.std.specs.Option.{ForSome};
+ghost use Rattle.sheet.specs.Calls.{block_of};
 
+mod acting;
 mod captures;
 mod faults;
+mod letters;
 mod lines;
 
-use search::Found;
-use sheet::{OpenRefusal, TakeRefusal};
+use search::Entry;
+use sheet::{OpenRefusal, Sheet, TakeRefusal};
+use weighing::{Reading, Weighing};
 
 // An act that a record asks for. A rule of the project: a take borrows its symbols from the capture.
 #[derive(Clone, Copy, Debug, PartialEq)]
@@ -26,12 +31,13 @@ pub enum Act<'a> {
     Wipe,
 }
 
-// Where the fields of a record begin: the map, the size (T, and behind it L), the start, the count and the symbols; and
-// where the next record begins. An absent field has the place at which it would begin.
+// Where the fields of a record begin: the map, T, L, the start, the count and the symbols; and where the next record begins.
+// An absent field has the place at which it would begin.
 #[derive(Clone, Copy, Debug, PartialEq)]
 pub struct Layout {
     pub map: usize,
-    pub size: usize,
+    pub octets: usize,
+    pub check: usize,
     pub start: usize,
     pub count: usize,
     pub symbols: usize,
@@ -82,20 +88,38 @@ pub struct Message {
     ghost few: { octets ≤ 512 },
 }
 
+// What a decode named: the message, its weight, and whether its check fits.
+#[derive(Clone, Copy, Drop)]
+pub struct Named<V> {
+    pub weight: V,
+    pub check_fits: bool,
+    pub message: Message,
+}
+
 // A line of the listing.
 #[derive(Clone, Copy, Drop)]
 pub enum Line<V> {
-    Decoded {
-        record: usize,
-        found: Found<V>,
-        message: Message,
-    },
-    Faulty {
-        record: usize,
-        fault: Fault,
-    },
+    Decoded { record: usize, named: Named<V> },
+    Faulty { record: usize, fault: Fault },
     // the end, with the number of records that were read whole
-    End {
-        records: usize,
-    },
+    End { records: usize },
+}
+
+// A reading with the letter by which a capture names it.
+pub trait Lettered: Reading {
+    const LETTER: u8;
+
+    ghost LETTER: { ℕ };
+}
+
+// What the acts are carried out on: the tally, the sheet in force, and the octet at which a take with no start field begins. The
+// path weights of the decodes are lent too, since generic code cannot make an array of weights.
+#[derive(Drop)]
+pub(crate) struct Reader<'a, W: Weighing> {
+    tally: &'a mut [Entry<W::Value>],
+    sheet: Option<Sheet<W>>,
+    next_start: usize,
+    paths: &'a mut [Option<W::Value>],
+    ghost room: { ForSome sheet (λ s. 32 * block_of s ≤ length tally.now) },
+    ghost states: { 32 ≤ length paths.now },
 }

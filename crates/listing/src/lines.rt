@@ -59,13 +59,10 @@ impl<V: fmt::Display + Copy + Drop> fmt::Display for Line<V> {
 
     fn fmt<W: fmt::Write>(&self, f: &mut fmt::Formatter<W>) -> fmt::Result {
         match self {
-            Line::Decoded {
-                record,
-                found,
-                message,
-            } => {
-                let weight = found.weight;
-                let verdict = if found.check_fits { "Y" } else { "N" };
+            Line::Decoded { record, named } => {
+                let weight = named.weight;
+                let verdict = if named.check_fits { "Y" } else { "N" };
+                let message = named.message;
                 write!(f, "D {record} {weight} {verdict} {message}")
             }
             Line::Faulty { record, fault } => {

@@ -1,6 +1,6 @@
 // Opening a sheet, and reading it.
 ghost use Rattle.std.specs.Prelude.{◌≡◌};
-ghost use Rattle.sheet.specs.Calls.{DecodeDoes, OpenDoes, open_case};
+ghost use Rattle.sheet.specs.Calls.{DecodeDoes, OpenDoes, block_of, open_case};
 
 use crate::entries::clear;
 use crate::{OpenRefusal, Sheet};
@@ -59,6 +59,13 @@ impl<W: Weighing> Sheet<W> {
         ensures { result ≡ self.now.size.check }
     {
         self.size.check()
+    }
+
+    // N: the octets of the block.
+    pub fn block_octets(&self) -> usize
+        ensures { result ≡ block_of self.now }
+    {
+        self.size.block_octets()
     }
 
     // How many symbols were taken since the opening or the last wipe.

@@ -1,0 +1,19 @@
+use Rattle.std.proofs.Common.{◌+◌, ◌*◌, ◌/◌, ◌%◌, ap, length, refl, arith}
+use Rattle.sheet.specs.Books.{unlawful}
+use Rattle.listing.specs.Carrying.{Silent}
+use Rattle.listing.proofs.Carried.{no_sheet, refused_within, take_done, take_refused}
+use Rattle.listing.proofs.Reader.take.Goals as goal
+
+pub returns-in_default : goal.returns-in_default
+returns-in_default g c = no_sheet _ _ _ _ _ c.args.self.now _ c.args.at _ Silent refl refl refl refl c.in_default.is
+
+pub of_take-requires-clause-index : goal.of_take-requires-clause-index
+of_take-requires-clause-index g c = λ index is. omega (arith, c.requires.few, refused_within _ c.args.symbols.now c.in-Err.refusal c.in-Err.ensures.1 index is)
+
+pub returns-in-Ok : goal.returns-in-Ok
+returns-in-Ok g c =
+    take_done _ _ _ _ _ c.args.self.now _ c.args.at c.args.start c.unwrap_or-start.result c.args.symbols.now c.in-Ok.field-0 c.in-Some.sheet c.take.new.self c.in-Some.is refl c.unwrap_or-start.ensures (ap (λ n. (c.unwrap_or-start.result + length c.args.symbols.now / 8) % (4 * n)) c.block_octets.ensures) c.in-Ok.ensures
+
+pub returns-in-Err : goal.returns-in-Err
+returns-in-Err g c =
+    take_refused _ _ _ _ _ c.args.self.now _ c.args.at c.args.start c.unwrap_or-start.result c.args.symbols.now c.in-Err.refusal c.of_take.result c.in-Some.sheet c.take.new.self c.in-Some.is refl c.unwrap_or-start.ensures refl c.in-Err.ensures (c.of_take.ensures _ c.in-Err.ensures.1)

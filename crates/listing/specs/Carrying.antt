@@ -1,0 +1,53 @@
+-- What carrying out an act does. Assumes nothing.
+use Rattle.std.specs.Prelude.{◌≡◌, ℕ, ◌<◌, ◌*◌, Bool, Some, None, Option, Result, MatchResult, length}
+use Rattle.block.specs.Refusals.{first_refusal}
+use Rattle.code.specs.Columns.{order_r}
+use Rattle.weighing.specs.Scales.{Scale}
+use Rattle.weighing.specs.declared.Weighing.{Ghosts}
+use Rattle.sheet.specs.declared.Sheet.{Sheet}
+use Rattle.nearest.specs.Runs.{Run}
+use Rattle.listing.specs.Captures.{Asked, asks}
+use Rattle.listing.specs.Faults.{fault_case, says}
+use Rattle.listing.specs.Lines.{octets_of}
+use Rattle.listing.specs.Listings.{InForce, TellsNearest, act_checks, after_act, first_unlawful, block_of}
+use Rattle.listing.specs.declared.Act.{Act}
+use Rattle.listing.specs.declared.Fault.{Fault}
+use Rattle.listing.specs.declared.Layout.{Layout}
+use Rattle.listing.specs.declared.Named.{Named}
+use Rattle.listing.specs.declared.Reader.{Reader}
+
+-- an act that answers nothing
+abbrev pub Silent : Option InForce → Unit {0} → Type 0
+Silent force x = Unit {0}
+
+-- what a decode names is nearest by the book of the sheet in force
+abbrev pub Tells : {V A : Type 0} → Scale V → (ℕ → Option A) → (A → Bool → V) → Option InForce → Named V → Type 0
+Tells s reads against None named = ⊥
+Tells s reads against (Some force) named = TellsNearest s reads against force named.weight named.check_fits (octets_of named.message)
+
+module _ {V A : Type 0} (W : Type 0) (g : Ghosts W V) (s : Scale V) (reads : ℕ → Option A) (against : A → Bool → V) where
+  -- A reader with a sheet in force: it is as a run of calls left it, with the tally and the book.
+  pub record Holds (reader : Reader W V g) (force : InForce) (sheet : Sheet W V g) : Type 0 where
+    pub sheet_is : reader.sheet ≡ Some sheet
+    pub next_is : reader.next_start ≡ force.next_start
+    pub runs : Run W g s reads against force.octets force.check order_r (record { sheet = sheet; tally = reader.tally.now; book = force.book })
+
+  abbrev pub Stands : Reader W V g → Option InForce → Type 0
+  Stands reader None = reader.sheet ≡ None
+  Stands reader (Some force) = (sheet : Sheet W V g) × Holds reader force sheet
+
+  -- the fault of an act that a test refuses, in the record with this layout
+  pub record Faults (at : Layout) (room : ℕ) (force : Option InForce) (asked : Asked) (fault : Fault) : Type 0 where
+    pub number : ℕ
+    pub refuses : first_refusal (act_checks s reads against room force asked) ≡ Some number
+    pub is : fault_case fault ≡ says at (first_unlawful reads asked) number
+
+  -- What carrying out an act does: it is performed just where its tests pass, and what is in force then is the rules'; a refused
+  -- one changes nothing. Told is what holds of the answer.
+  abbrev pub CarriesOut : {B : Type 0} → Layout → Asked → (Option InForce → B → Type 0) → Reader W V g → Reader W V g → Result B Fault → Type 0
+  CarriesOut at asked Told before after r =
+      (length after.tally.now ≡ length before.tally.now)
+      × ((force : Option InForce) → Stands before force
+      → MatchResult r
+      (λ x. (first_refusal (act_checks s reads against (length before.tally.now) force asked) ≡ None) × Stands after (after_act force asked) × Told force x)
+      (λ fault. Faults at (length before.tally.now) force asked fault × Stands after force))
