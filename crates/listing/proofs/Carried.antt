@@ -1,5 +1,5 @@
 -- Carrying out acts, by what the calls of the sheet do. Assumes nothing.
-use Rattle.std.proofs.Common.{◌≡◌, ℕ, suc, ◌+◌, ◌*◌, ◌/◌, ◌%◌, ◌<◌, ◌≤◌, Bool, true, false, List, [], ◌∷◌, ◌++◌, length, length-append, get_or, take, Decides, Ok, Err, Some, None, Option, Result, refl, sym, ap, ◌∙◌, subst, arith}
+use Rattle.std.proofs.Common.{◌≡◌, ℕ, suc, ◌+◌, ◌*◌, ◌/◌, ◌%◌, ◌<◌, ◌≤◌, Bool, true, false, List, [], ◌∷◌, ◌++◌, length, length-append, get_or, take, Decides, Ok, Err, Some, None, Option, Result, refl, sym, ap, ◌∙◌, subst, arith, rules}
 use Rattle.std.specs.Option.{option_map, unwrap_or}
 use Rattle.std.proofs.lemmas.List.{ext_get_or, get_or-take, get_or_append_left, length-take-le}
 use Rattle.std.proofs.lemmas.Option.{none-some, same_Some}
@@ -24,11 +24,11 @@ use Rattle.sheet.specs.declared.TakeRefusal.{TakeRefusal}
 use Rattle.sheet.specs.declared.TakeRefusal.TheVariants.{Symbol}
 use Rattle.nearest.proofs.Keeping.{block_is, by_the_book, run_kept}
 use Rattle.nearest.specs.Runs.{Run, called, opened as run_opened, takes, wipes}
-use Rattle.listing.specs.Carrying.{CarriesOut, Faults, Holds, Silent, Stands, Tells}
+use Rattle.listing.specs.Carrying.{CarriesOut, Faults, Holds, Silent, Stands, Tells, TellsAct}
 use Rattle.listing.specs.Captures.{Asked, to_decode, to_open, to_take, to_wipe}
 use Rattle.listing.specs.Faults.{fault_case, says}
 use Rattle.listing.specs.Lines.{octets_of}
-use Rattle.listing.specs.Listings.{InForce, block_of as force_block, act_checks, after_act, first_unlawful, opened, start_of, taken}
+use Rattle.listing.specs.Listings.{ActTells, InForce, block_of as force_block, act_checks, after_act, decoded, first_unlawful, opened, start_of, taken}
 use Rattle.listing.specs.declared.Fault.{Fault}
 use Rattle.listing.specs.declared.Fault.TheVariants.{NoSheet}
 use Rattle.listing.specs.declared.Layout.{Layout}
@@ -67,9 +67,17 @@ pub unlawful_within : {A : Type 0} (reads : ℕ → Option A) (octets : List ℕ
 unlawful_within reads [] i e = absurd (none-some i e)
 unlawful_within reads (x ∷ xs) i e = within_step (reads x) (unlawful reads xs) (length xs) (unlawful_within reads xs) i e
 
-pub refused_within : {A : Type 0} (reads : ℕ → Option A) (octets : List ℕ) (refusal : TakeRefusal) → (take_case (unlawful reads octets) refusal).carries
-    → (i : ℕ) → refusal ≡ Symbol i → i < length octets
-refused_within reads octets refusal carries i is = unlawful_within reads octets i (subst (λ r. (take_case (unlawful reads octets) r).carries) is carries)
+-- a take that is refused for a symbol has passed the test of its count
+counted_before : {A : Type 0} (reads : ℕ → Option A) (n tally count start : ℕ) (octets : List ℕ) → first_refusal (take_checks reads n tally count start octets) ≡ Some 9 → length octets ≤ 32 * n
+counted_before reads n tally count start octets e = search rules
+
+pub refused_within : {A : Type 0} (reads : ℕ → Option A) (n tally count start : ℕ) (octets : List ℕ) (refusal : TakeRefusal)
+    → first_refusal (take_checks reads n tally count start octets) ≡ Some (take_case (unlawful reads octets) refusal).number
+    → (take_case (unlawful reads octets) refusal).carries → (i : ℕ) → refusal ≡ Symbol i → i < 32 * n
+refused_within reads n tally count start octets refusal refuses carries i is =
+    let named = subst (λ r. (take_case (unlawful reads octets) r).carries) is carries in
+    let nine = refuses ∙ ap (λ r. Some (take_case (unlawful reads octets) r).number) is in
+    omega (arith, unlawful_within reads octets i named, counted_before reads n tally count start octets nine)
 
 module _ {V A : Type 0} (W : Type 0) (g : Ghosts W V) (s : Scale V) (reads : ℕ → Option A) (against : A → Bool → V) where
   -- a reader that has not changed
@@ -237,3 +245,16 @@ module _ {V A : Type 0} (W : Type 0) (g : Ghosts W V) (s : Scale V) (reads : ℕ
           },
         )),
   )
+
+  -- what a silent act, and a decode, let their record tell
+  pub silent_told : (before after : Reader W V g) (at : Layout) (asked : Asked) → ((r : ℕ) (force : Option InForce) → ActTells s reads against r force asked [])
+      → CarriesOut W g s reads against at asked Silent before after (Ok tt) → CarriesOut W g s reads against at asked (TellsAct s reads against asked) before after (Ok None)
+  silent_told before after at asked quiet does = (does.0, λ force stands. let done = does.1 force stands in (done.0, done.1, λ r. quiet r force))
+
+  decode_lines : (force : Option InForce) (named : Named V) → Tells s reads against force named → TellsAct s reads against to_decode force (Some named)
+  decode_lines None named tells r = elim tells [ ]
+  decode_lines (Some force) named tells r = decoded named.weight named.check_fits (octets_of named.message) tells
+
+  pub decode_told : (before after : Reader W V g) (at : Layout) (named : Named V)
+      → CarriesOut W g s reads against at to_decode (Tells s reads against) before after (Ok named) → CarriesOut W g s reads against at to_decode (TellsAct s reads against to_decode) before after (Ok (Some named))
+  decode_told before after at named does = (does.0, λ force stands. let done = does.1 force stands in (done.0, done.1, decode_lines force named done.2))

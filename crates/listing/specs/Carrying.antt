@@ -1,5 +1,5 @@
 -- What carrying out an act does. Assumes nothing.
-use Rattle.std.specs.Prelude.{◌≡◌, ℕ, ◌<◌, ◌*◌, Bool, Some, None, Option, Result, MatchResult, length}
+use Rattle.std.specs.Prelude.{◌≡◌, ℕ, ◌<◌, ◌*◌, Bool, List, [], ◌∷◌, Some, None, Option, Result, MatchResult, length}
 use Rattle.block.specs.Refusals.{first_refusal}
 use Rattle.code.specs.Columns.{order_r}
 use Rattle.weighing.specs.Scales.{Scale}
@@ -8,8 +8,8 @@ use Rattle.sheet.specs.declared.Sheet.{Sheet}
 use Rattle.nearest.specs.Runs.{Run}
 use Rattle.listing.specs.Captures.{Asked, asks}
 use Rattle.listing.specs.Faults.{fault_case, says}
-use Rattle.listing.specs.Lines.{octets_of}
-use Rattle.listing.specs.Listings.{InForce, TellsNearest, act_checks, after_act, first_unlawful, block_of}
+use Rattle.listing.specs.Lines.{Told, a_decode, octets_of}
+use Rattle.listing.specs.Listings.{ActTells, InForce, TellsNearest, act_checks, after_act, first_unlawful, block_of}
 use Rattle.listing.specs.declared.Act.{Act}
 use Rattle.listing.specs.declared.Fault.{Fault}
 use Rattle.listing.specs.declared.Layout.{Layout}
@@ -24,6 +24,15 @@ Silent force x = Unit {0}
 abbrev pub Tells : {V A : Type 0} → Scale V → (ℕ → Option A) → (A → Bool → V) → Option InForce → Named V → Type 0
 Tells s reads against None named = ⊥
 Tells s reads against (Some force) named = TellsNearest s reads against force named.weight named.check_fits (octets_of named.message)
+
+-- the lines of what a decode of record r named, if there was one
+abbrev pub named_lines : {V : Type 0} → ℕ → Option (Named V) → List (Told V)
+named_lines r None = []
+named_lines r (Some named) = a_decode r named.weight named.check_fits (octets_of named.message) ∷ []
+
+-- what an act answers is what its record tells
+abbrev pub TellsAct : {V A : Type 0} → Scale V → (ℕ → Option A) → (A → Bool → V) → Asked → Option InForce → Option (Named V) → Type 0
+TellsAct s reads against asked force named = (r : ℕ) → ActTells s reads against r force asked (named_lines r named)
 
 module _ {V A : Type 0} (W : Type 0) (g : Ghosts W V) (s : Scale V) (reads : ℕ → Option A) (against : A → Bool → V) where
   -- A reader with a sheet in force: it is as a run of calls left it, with the tally and the book.

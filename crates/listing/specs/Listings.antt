@@ -76,6 +76,14 @@ module _ {V A : Type 0} (s : Scale V) (reads : ℕ → Option A) (against : A �
     pub verdict : Decides fits (CheckFits sheet.octets sheet.check message)
     pub octets_are : octets ≡ filled message sheet.octets
 
+  -- the lines that a performed act of a record tells: a decode one, and the others none
+  pub data ActTells (r : ℕ) : Option InForce → Asked → List (Told V) → Type 0 where
+    quiet_open : {force : Option InForce} {octets check : ℕ} → ActTells r force (to_open octets check) []
+    quiet_take : {force : Option InForce} {start : Option ℕ} {symbols : List ℕ} → ActTells r force (to_take start symbols) []
+    quiet_wipe : {force : Option InForce} → ActTells r force to_wipe []
+    decoded : {sheet : InForce} (weight-told : V) (fits : Bool) (octets : List ℕ) → TellsNearest sheet weight-told fits octets
+        → ActTells r (Some sheet) to_decode (a_decode r weight-told fits octets ∷ [])
+
   module _ (room : ℕ) where
     -- What an act is tested for, over a tally of so many places: 13 where it needs a sheet and none is in force, and else what the
     -- sheet's call is tested for. A sheet that was opened has room for its decodes and wipes.
@@ -87,14 +95,6 @@ module _ {V A : Type 0} (s : Scale V) (reads : ℕ → Option A) (against : A �
     act_checks None (to_take start symbols) = if_refuse true 13 ∷ []
     act_checks None to_decode = if_refuse true 13 ∷ []
     act_checks None to_wipe = if_refuse true 13 ∷ []
-
-    -- the lines that a performed act of a record tells: a decode one, and the others none
-    pub data ActTells (r : ℕ) : Option InForce → Asked → List (Told V) → Type 0 where
-      quiet_open : {force : Option InForce} {octets check : ℕ} → ActTells r force (to_open octets check) []
-      quiet_take : {force : Option InForce} {start : Option ℕ} {symbols : List ℕ} → ActTells r force (to_take start symbols) []
-      quiet_wipe : {force : Option InForce} → ActTells r force to_wipe []
-      decoded : {sheet : InForce} (weight-told : V) (fits : Bool) (octets : List ℕ) → TellsNearest sheet weight-told fits octets
-          → ActTells r (Some sheet) to_decode (a_decode r weight-told fits octets ∷ [])
 
     -- The lines of a capture from some point on, at which r records were read whole: the last of them has its map at `map` and
     -- these acts still to run, the next has its map at `next`, and this sheet is in force.

@@ -1,7 +1,7 @@
 // Carrying out the acts of a record.
-ghost use Rattle.std.specs.Prelude.{◌≤◌, length};
-ghost use Rattle.listing.specs.Carrying.{CarriesOut, Silent, Tells};
-ghost use Rattle.listing.specs.Captures.{to_decode, to_open, to_take, to_wipe};
+ghost use Rattle.std.specs.Prelude.{◌≤◌};
+ghost use Rattle.listing.specs.Carrying.{CarriesOut, Silent, Tells, TellsAct};
+ghost use Rattle.listing.specs.Captures.{asks, to_decode, to_open, to_take, to_wipe};
 
 use crate::{Act, Fault, Layout, Message, Named, Reader};
 use code::Order;
@@ -25,8 +25,7 @@ impl<R: Reading> Reader<'_, R> {
 
     // Takes symbols from octet `start` on, or from where the last take ended.
     fn take(&mut self, at: Layout, start: Option<usize>, symbols: &[u8]) -> Result<(), Fault>
-        requires near { at.symbols ≤ 100000 }
-        requires few { length symbols.now ≤ 65535 }
+        requires { at.symbols ≤ 100000 }
         ensures { CarriesOut R R.Weighing R.Weighing.scale R.Reading.reads R.Reading.against at (to_take start symbols.now) Silent self.old self.new result }
     {
         let Some(sheet) = &mut self.sheet else {
@@ -75,5 +74,23 @@ impl<R: Reading> Reader<'_, R> {
         sheet.wipe(self.tally).unwrap();
         self.next_start = 0;
         Ok(())
+    }
+
+    // Carries out an act of the record with this layout, and answers what a decode named.
+    pub(crate) fn perform(
+        &mut self,
+        at: Layout,
+        act: Act<'_>,
+    ) -> Result<Option<Named<R::Value>>, Fault>
+        requires { at.symbols ≤ 100000 }
+        ensures { CarriesOut R R.Weighing R.Weighing.scale R.Reading.reads R.Reading.against at (asks act.entry) (TellsAct R.Weighing.scale R.Reading.reads R.Reading.against (asks act.entry)) self.old self.new result }
+    {
+        match act {
+            Act::Open { octets, check } => self.open(at, octets, check)?,
+            Act::Take { start, symbols } => self.take(at, start, symbols)?,
+            Act::Decode => return Ok(Some(self.decode(at)?)),
+            Act::Wipe => self.wipe(at)?,
+        }
+        Ok(None)
     }
 }

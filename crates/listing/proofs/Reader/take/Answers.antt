@@ -1,5 +1,5 @@
 use Rattle.std.proofs.Common.{◌+◌, ◌*◌, ◌/◌, ◌%◌, ap, length, refl, arith}
-use Rattle.sheet.specs.Books.{unlawful}
+use Rattle.sheet.specs.Calls.{block_of}
 use Rattle.listing.specs.Carrying.{Silent}
 use Rattle.listing.proofs.Carried.{no_sheet, refused_within, take_done, take_refused}
 use Rattle.listing.proofs.Reader.take.Goals as goal
@@ -8,7 +8,9 @@ pub returns-in_default : goal.returns-in_default
 returns-in_default g c = no_sheet _ _ _ _ _ c.args.self.now _ c.args.at _ Silent refl refl refl refl c.in_default.is
 
 pub of_take-requires-clause-index : goal.of_take-requires-clause-index
-of_take-requires-clause-index g c = λ index is. omega (arith, c.requires.few, refused_within _ c.args.symbols.now c.in-Err.refusal c.in-Err.ensures.1 index is)
+of_take-requires-clause-index g c = λ index is.
+    let within = refused_within _ (block_of c.in-Some.sheet) _ _ _ c.args.symbols.now c.in-Err.refusal c.in-Err.ensures.0 c.in-Err.ensures.1 index is in
+    omega (arith, within, c.in-Some.sheet.size.few)
 
 pub returns-in-Ok : goal.returns-in-Ok
 returns-in-Ok g c =
