@@ -1,6 +1,7 @@
 -- A capture and its records. Assumes nothing.
 use Rattle.std.specs.Prelude.{◌≡◌, ℕ, ◌+◌, ◌*◌, Bool, false, cond, not, ◌&&◌, ◌||◌, List, [], ◌∷◌, ◌++◌, length, take, drop, Some, None, Option, nat_le, nat_lt, ◌==◌, slice_index_or}
 use Rattle.block.specs.Bits.{bit}
+use Rattle.block.specs.Refusals.{Check, if_refuse}
 use Rattle.listing.specs.declared.Act.{Act}
 use Rattle.listing.specs.declared.Act.TheVariants.{Open, Take, Decode, Wipe}
 use Rattle.listing.specs.declared.Acts.{Acts}
@@ -79,6 +80,10 @@ layout capture place =
 -- a record that would end behind the capture's end
 abbrev pub cut_short : List ℕ → ℕ → Bool
 cut_short capture place = nat_lt (length capture) (layout capture place).end
+
+-- what a record is tested for before it is read: its map first, and then its end
+abbrev pub record_checks : List ℕ → ℕ → List Check
+record_checks capture place = if_refuse (unknown (octet capture place)) 12 ∷ if_refuse (cut_short capture place) 11 ∷ []
 
 -- what an act asks for; a take without a start field has none
 pub data Asked : Type 0 where

@@ -3,3 +3,4 @@ pub mod Captures
 pub mod Faults
 pub mod Lines
 pub mod Listings
+pub mod Owed

@@ -11,7 +11,7 @@ use Rattle.weighing.specs.Scales.{Scale}
 use Rattle.search.specs.Weights.{Nearest, weight}
 use Rattle.sheet.specs.Books.{Book, book_sums, empty, noted, unlawful}
 use Rattle.sheet.specs.Calls.{open_checks, take_checks}
-use Rattle.listing.specs.Captures.{Asked, acts, cut_short, is_letter, layout, most_octets, octet, to_decode, to_open, to_take, to_wipe, unknown}
+use Rattle.listing.specs.Captures.{Asked, acts, is_letter, layout, most_octets, record_checks, to_decode, to_open, to_take, to_wipe}
 use Rattle.listing.specs.Faults.{Says, fault_case, says}
 use Rattle.listing.specs.Lines.{Told, a_decode, a_fault, the_end}
 use Rattle.listing.specs.declared.Fault.TheVariants.{Letter, TooLong}
@@ -108,17 +108,14 @@ module _ {V A : Type 0} (s : Scale V) (reads : ℕ → Option A) (against : A �
           → first_refusal (act_checks force act) ≡ Some number
           → Listed capture r map next force [] rest
           → Listed capture r map next force (act ∷ more) (a_fault r (says (layout capture map) (first_unlawful reads act) number) ∷ rest)
-      -- a record follows that is read whole
+      -- a record follows that is read whole: its acts are carried out next
       whole : {r map next : ℕ} {force : Option InForce} {rest : List (Told V)}
-          → next < length capture → unknown (octet capture next) ≡ false → cut_short capture next ≡ false
+          → next < length capture → first_refusal (record_checks capture next) ≡ None
           → Listed capture (suc r) next (layout capture next).end force (acts capture next) rest
           → Listed capture r map next force [] rest
-      -- a map is unknown, which is tested first: reading stops
-      unknown_map : {r map next : ℕ} {force : Option InForce} → next < length capture → unknown (octet capture next) ≡ true
-          → Listed capture r map next force [] (a_fault (suc r) (says (layout capture next) None 12) ∷ the_end r ∷ [])
-      -- a record is cut short: reading stops
-      cut : {r map next : ℕ} {force : Option InForce} → next < length capture → unknown (octet capture next) ≡ false → cut_short capture next ≡ true
-          → Listed capture r map next force [] (a_fault (suc r) (says (layout capture next) None 11) ∷ the_end r ∷ [])
+      -- a record follows that is not read: reading stops
+      stopped : {r map next number : ℕ} {force : Option InForce} → next < length capture → first_refusal (record_checks capture next) ≡ Some number
+          → Listed capture r map next force [] (a_fault (suc r) (says (layout capture next) None number) ∷ the_end r ∷ [])
       -- the capture is at its end
       ended : {r map next : ℕ} {force : Option InForce} → length capture ≤ next → Listed capture r map next force [] (the_end r ∷ [])
 

@@ -1,8 +1,10 @@
 // Reading the records of a capture.
-ghost use Rattle.std.specs.Prelude.{◌≡◌, ◌<◌, ◌≤◌, false, length, MatchOption, [], ◌∷◌};
-ghost use Rattle.listing.specs.Captures.{acts, asks, cut_short, layout, left, octet as octet_at, opens, starts, two, takes, decodes, wipes, unknown};
+ghost use Rattle.std.specs.Prelude.{◌≡◌, ◌<◌, ◌≤◌, length, MatchOption, MatchResult, [], ◌∷◌, Some, None};
+ghost use Rattle.block.specs.Refusals.{first_refusal};
+ghost use Rattle.listing.specs.Faults.{fault_case, says};
+ghost use Rattle.listing.specs.Captures.{acts, asks, layout, left, octet as octet_at, record_checks, opens, starts, two, takes, decodes, wipes, unknown};
 
-use crate::{Act, Acts, Layout};
+use crate::{Act, Acts, Fault, Layout};
 use block::bit_of;
 
 // The octet at a place of a capture, and 0 behind the end.
@@ -89,6 +91,23 @@ impl Layout {
     }
 }
 
+impl Layout {
+    // The layout of the record at a place, if it is read: its map is tested first, and then whether it is cut short.
+    pub(crate) fn read(capture: &[u8], place: usize) -> Result<Layout, Fault>
+        requires { place ≤ 32768 }
+        ensures { MatchResult result (λ at. (first_refusal (record_checks capture.now place) ≡ None) × (at ≡ layout capture.now place)) (λ fault. (first_refusal (record_checks capture.now place) ≡ Some (fault_case fault).number) × (fault_case fault ≡ says (layout capture.now place) None (fault_case fault).number)) }
+    {
+        if Map(octet(capture, place)).unknown() {
+            return Err(Fault::Unknown { place });
+        }
+        let at = Layout::of(capture, place);
+        if at.end > capture.len() {
+            return Err(Fault::CutShort { place });
+        }
+        Ok(at)
+    }
+}
+
 impl<'a> Acts<'a> {
     // No acts.
     pub(crate) fn none() -> Acts<'a>
@@ -103,7 +122,7 @@ impl<'a> Acts<'a> {
     }
 
     // The acts of the record with this layout.
-    fn of(capture: &'a [u8], at: Layout) -> Acts<'a>
+    pub(crate) fn of(capture: &'a [u8], at: Layout) -> Acts<'a>
         requires place { at.map ≤ 32768 }
         requires layout { at ≡ layout capture.now at.map }
         requires whole { at.end ≤ length capture.now }

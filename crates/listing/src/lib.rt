@@ -1,7 +1,7 @@
 // The listing of a capture: which records it has, which acts each asks for, and the lines that tell what comes of them.
 #![tactic(auto)]
 
-ghost use Rattle.std.specs.Prelude.{ℕ, ◌*◌, ◌≤◌, length};
+ghost use Rattle.std.specs.Prelude.{ℕ, ◌*◌, ◌<◌, ◌≤◌, length};
 ghost use Rattle.std.specs.Option.{ForSome};
 ghost use Rattle.sheet.specs.Calls.{block_of};
 
@@ -9,7 +9,8 @@ mod acting;
 mod captures;
 mod faults;
 mod letters;
-mod lines;
+mod telling;
+mod text;
 
 use search::Entry;
 use sheet::{OpenRefusal, Sheet, TakeRefusal};
@@ -122,4 +123,33 @@ pub(crate) struct Reader<'a, W: Weighing> {
     paths: &'a mut [Option<W::Value>],
     ghost room: { ForSome sheet (λ s. 32 * block_of s ≤ length tally.now) },
     ghost states: { 32 ≤ length paths.now },
+}
+
+// How far a listing is told.
+#[derive(Clone, Copy, Debug, PartialEq)]
+enum Stage {
+    // nothing is told yet of a capture that is too long, or that begins with no letter
+    TooLong,
+    NoLetter,
+    // records are read
+    Reading,
+    // a record stopped the reading, and the end is still to be told
+    Stopped,
+    Ended,
+}
+
+// The lines of a capture, told one by one.
+#[derive(Drop)]
+pub struct Lines<'a, W: Weighing> {
+    capture: &'a [u8],
+    reader: Reader<'a, W>,
+    // the record that was read last, its acts that are still to be carried out, and how many were read whole
+    at: Layout,
+    acts: Acts<'a>,
+    records: usize,
+    stage: Stage,
+    ghost few: { length capture.now ≤ 32768 },
+    ghost within: { at.end ≤ 32768 },
+    ghost near: { at.symbols ≤ 100000 },
+    ghost counted: { records < at.end },
 }

@@ -1,7 +1,7 @@
 use Rattle.std.proofs.Common.{take}
 use Rattle.std.specs.Fmt.{HasWritten, IsPlainFormatter}
 use Rattle.listing.specs.Lines.{hex}
-use Rattle.listing.proofs.lines.MessageDisplay.fmt.Given as goal
+use Rattle.listing.proofs.text.MessageDisplay.fmt.Given as goal
 
 abbrev pub invariant-loop-octet : goal.invariant-loop-octet
 invariant-loop-octet g l =

@@ -1,0 +1,70 @@
+-- What a listing still owes, step by step: nothing here is part of what the library promises. Assumes nothing.
+use Rattle.std.specs.Prelude.{◌≡◌, ℕ, ◌+◌, ◌-◌, ◌*◌, ◌<◌, Bool, List, [], ◌∷◌, length, Some, None, Option}
+use Rattle.weighing.specs.Scales.{Scale}
+use Rattle.weighing.specs.declared.Weighing.{Ghosts}
+use Rattle.listing.specs.Captures.{Asked, asks, layout, left}
+use Rattle.listing.specs.Carrying.{Stands}
+use Rattle.listing.specs.Faults.{fault_case}
+use Rattle.listing.specs.Lines.{Told, a_fault, tells, the_end}
+use Rattle.listing.specs.Listings.{InForce, Listed}
+use Rattle.listing.specs.declared.Act.{Act}
+use Rattle.listing.specs.declared.Fault.TheVariants.{Letter, TooLong as too_long}
+use Rattle.listing.specs.declared.Line.{Line}
+use Rattle.listing.specs.declared.Lines.{Lines}
+use Rattle.listing.specs.declared.Stage.{Stage}
+use Rattle.listing.specs.declared.Stage.TheVariants.{TooLong, NoLetter, Reading, Stopped, Ended}
+
+-- more steps than are left, by the stage and by how many steps the records may still take
+abbrev pub steps_left : Stage → ℕ → ℕ
+steps_left TooLong more = 1
+steps_left NoLetter more = 2
+steps_left Reading more = more + 2
+steps_left Stopped more = 1
+steps_left Ended more = 0
+
+-- a record has at most four acts, and takes a step to begin
+abbrev pub todo : {W V : Type 0} {g : Ghosts W V} → Lines W V g → ℕ
+todo lines = steps_left lines.stage (5 * (length lines.capture.now - lines.at.end) + length (left lines.acts))
+
+-- the lines that follow, behind the one that is told, if there is one
+abbrev pub told_first : {V : Type 0} → Option (Line V) → List (Told V) → List (Told V)
+told_first None more = more
+told_first (Some line) more = tells line ∷ more
+
+module _ {V A : Type 0} (W : Type 0) (g : Ghosts W V) (s : Scale V) (reads : ℕ → Option A) (against : A → Bool → V) where
+  -- the lines of the records that are still to come, where these acts come first
+  abbrev pub Records : Lines W V g → Option InForce → List Asked → List (Told V) → Type 0
+  Records lines force acts told =
+      Listed s reads against (length lines.reader.tally.now) lines.capture.now lines.records lines.at.map lines.at.end force acts told
+
+  abbrev pub OwesAt : Stage → Lines W V g → Option InForce → List (Told V) → Type 0
+  OwesAt TooLong lines force told = told ≡ a_fault 0 (fault_case too_long) ∷ []
+  OwesAt NoLetter lines force told = told ≡ a_fault 0 (fault_case Letter) ∷ the_end lines.records ∷ []
+  OwesAt Reading lines force told = Records lines force (left lines.acts) told
+  OwesAt Stopped lines force told = told ≡ the_end lines.records ∷ []
+  OwesAt Ended lines force told = told ≡ []
+
+  -- the lines that are still to be told
+  abbrev pub Owes : Lines W V g → Option InForce → List (Told V) → Type 0
+  Owes lines force told = OwesAt lines.stage lines force told
+
+  -- the reader stands, and where acts are left, the layout is their record's
+  pub record Ready (lines : Lines W V g) (force : Option InForce) : Type 0 where
+    pub stands : Stands W g s reads against lines.reader force
+    pub placed : (act : Asked) (more : List Asked) → left lines.acts ≡ act ∷ more → lines.at ≡ layout lines.capture.now lines.at.map
+
+  -- A step from a point at which `before` was owed: either it tells a line, or none, and the others are still owed.
+  pub record Steps (before : List (Told V) → Type 0) (r : Option (Line V)) (after : Lines W V g) : Type 0 where
+    pub force : Option InForce
+    pub ready : Ready after force
+    pub owes : (told : List (Told V)) → Owes after force told → before (told_first r told)
+
+  -- a step from a listing as it stands
+  abbrev pub GoesOn : Lines W V g → Lines W V g → Option (Line V) → Type 0
+  GoesOn before after r = (force : Option InForce) → Ready before force → Steps (Owes before force) r after
+
+  -- a step that carries out an act, which stood before those that are left
+  abbrev pub CarriesOn : Asked → Lines W V g → Lines W V g → Option (Line V) → Type 0
+  CarriesOn asked before after r =
+      (force : Option InForce) → Stands W g s reads against before.reader force → before.at ≡ layout before.capture.now before.at.map
+      → Steps (Records before force (asked ∷ left before.acts)) r after
