@@ -8,7 +8,7 @@ use Rattle.listing.specs.Carrying.{CarriesOut, Stands, TellsAct, named_lines}
 use Rattle.listing.specs.Faults.{fault_case, says}
 use Rattle.listing.specs.Lines.{Told, a_fault, tells, the_end}
 use Rattle.listing.specs.Listings.{InForce, Listed, after_act, ended, first_unlawful, performed, refused, stopped, whole}
-use Rattle.listing.specs.Owed.{CarriesOn, GoesOn, Owes, OwesAt, Ready, Records, Steps, told_first}
+use Rattle.listing.specs.Owed.{CarriesOn, Gives, GoesOn, Owes, OwesAt, Ready, Records, Steps, told_first}
 use Rattle.listing.specs.declared.Fault.{Fault}
 use Rattle.listing.specs.declared.Layout.{Layout}
 use Rattle.listing.specs.declared.Line.{Line}
@@ -18,7 +18,7 @@ use Rattle.listing.specs.declared.Named.{Named}
 use Rattle.listing.specs.declared.Stage.{Stage}
 use Rattle.listing.specs.declared.Stage.TheVariants.{Ended, NoLetter, Reading, Stopped, TooLong}
 
-cast : {X Y : Type 0} → X ≡ Y → X → Y
+pub cast : {X Y : Type 0} → X ≡ Y → X → Y
 cast e x = subst (λ Z. Z) e x
 
 module _ {V A : Type 0} (W : Type 0) (g : Ghosts W V) (s : Scale V) (reads : ℕ → Option A) (against : A → Bool → V) where
@@ -27,17 +27,17 @@ module _ {V A : Type 0} (W : Type 0) (g : Ghosts W V) (s : Scale V) (reads : ℕ
       → Records W g s reads against lines force (left lines.acts) told → Owes W g s reads against lines force told
   owes_records lines stage force told records = subst (λ x. OwesAt W g s reads against x lines force told) (sym stage) records
 
-  records_owed : (lines : Lines W V g) → lines.stage ≡ Reading → (force : Option InForce) (told : List (Told V))
+  pub records_owed : (lines : Lines W V g) → lines.stage ≡ Reading → (force : Option InForce) (told : List (Told V))
       → Owes W g s reads against lines force told → Records W g s reads against lines force (left lines.acts) told
   records_owed lines stage force told owes = subst (λ x. OwesAt W g s reads against x lines force told) stage owes
 
   -- what is owed at another stage
-  owed_at : (lines : Lines W V g) (stage : Stage) → lines.stage ≡ stage → (force : Option InForce) (told : List (Told V))
+  pub owed_at : (lines : Lines W V g) (stage : Stage) → lines.stage ≡ stage → (force : Option InForce) (told : List (Told V))
       → Owes W g s reads against lines force told → OwesAt W g s reads against stage lines force told
   owed_at lines stage is force told owes = subst (λ x. OwesAt W g s reads against x lines force told) is owes
 
   -- where no acts are left
-  none_left : (lines : Lines W V g) → left lines.acts ≡ [] → (act : Asked) (more : List Asked) → left lines.acts ≡ act ∷ more → lines.at ≡ layout lines.capture.now lines.at.map
+  pub none_left : (lines : Lines W V g) → left lines.acts ≡ [] → (act : Asked) (more : List Asked) → left lines.acts ≡ act ∷ more → lines.at ≡ layout lines.capture.now lines.at.map
   none_left lines none act more is = let e : ◌≡◌ {A = ℕ} 0 (suc (length more)) = ap length (sym none ∙ is) in absurd (omega (arith, e))
 
   pub ended_told : (before after : Lines W V g) → before.stage ≡ Reading → left before.acts ≡ [] → length before.capture.now ≤ before.at.end
@@ -96,7 +96,6 @@ module _ {V A : Type 0} (W : Type 0) (g : Ghosts W V) (s : Scale V) (reads : ℕ
             owes_records before stage force told (subst (λ a. Records W g s reads against before force a told) (sym none) (whole more passes next));
       }
 
-
   pub carried : (before after : Lines W V g) (asked : Asked) (named : Option (Named V)) (line : Option (Line V))
       → ((told : List (Told V)) → named_lines before.records named ++ told ≡ told_first line told)
       → before.stage ≡ Reading
@@ -132,3 +131,20 @@ module _ {V A : Type 0} (W : Type 0) (g : Ghosts W V) (s : Scale V) (reads : ℕ
             subst (λ f. Records W g s reads against before force (asked ∷ left before.acts) (a_fault before.records f ∷ told))
             (sym (met.0.is ∙ ap (λ l. says l (first_unlawful reads asked) met.0.number) placed)) (refused met.0.refuses rest);
       }
+
+  -- steps that tell no line, one after another
+  pub no_step : (lines : Lines W V g) → GoesOn W g s reads against lines lines None
+  no_step lines force ready = record { force = force; ready = ready; owes = λ told owes. owes }
+
+  pub then_step : (first second third : Lines W V g) (r : Option (Line V)) → GoesOn W g s reads against first second None
+      → GoesOn W g s reads against second third r → GoesOn W g s reads against first third r
+  then_step first second third r before after force ready =
+      let one = before force ready in
+      let two = after one.force one.ready in
+      record { force = two.force; ready = two.ready; owes = λ told owes. one.owes (told_first r told) (two.owes told owes) }
+
+  -- where they end, no line is owed
+  pub none_owed : (first last : Lines W V g) → GoesOn W g s reads against first last None → last.stage ≡ Ended → Gives W g s reads against first None last
+  none_owed first last gone ended-now force ready =
+      let all = gone force ready in
+      all.owes [] (subst (λ x. OwesAt W g s reads against x last all.force []) (sym ended-now) refl)

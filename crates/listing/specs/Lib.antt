@@ -4,3 +4,4 @@ pub mod Faults
 pub mod Lines
 pub mod Listings
 pub mod Owed
+pub mod Whole

@@ -1,8 +1,8 @@
 -- What a listing still owes, step by step: nothing here is part of what the library promises. Assumes nothing.
-use Rattle.std.specs.Prelude.{◌≡◌, ℕ, ◌+◌, ◌-◌, ◌*◌, ◌<◌, Bool, List, [], ◌∷◌, length, Some, None, Option}
+use Rattle.std.specs.Prelude.{◌≡◌, ℕ, ◌+◌, ◌-◌, ◌*◌, ◌<◌, Bool, true, false, cond, List, [], ◌∷◌, length, Some, None, Option, MatchOption, nat_lt}
 use Rattle.weighing.specs.Scales.{Scale}
 use Rattle.weighing.specs.declared.Weighing.{Ghosts}
-use Rattle.listing.specs.Captures.{Asked, asks, layout, left}
+use Rattle.listing.specs.Captures.{Asked, asks, is_letter, is_of_another, layout, left, most_octets}
 use Rattle.listing.specs.Carrying.{Stands}
 use Rattle.listing.specs.Faults.{fault_case}
 use Rattle.listing.specs.Lines.{Told, a_fault, tells, the_end}
@@ -25,6 +25,13 @@ steps_left Ended more = 0
 -- a record has at most four acts, and takes a step to begin
 abbrev pub todo : {W V : Type 0} {g : Ghosts W V} → Lines W V g → ℕ
 todo lines = steps_left lines.stage (5 * (length lines.capture.now - lines.at.end) + length (left lines.acts))
+
+-- the stage at which the listing of a capture begins
+abbrev pub Begins : ℕ → List ℕ → Option Stage → Type 0
+Begins letter capture None = is_of_another letter capture ≡ true
+Begins letter capture (Some stage) =
+    (is_of_another letter capture ≡ false)
+    × (stage ≡ cond (nat_lt most_octets (length capture)) TooLong (cond (is_letter letter capture) Reading NoLetter))
 
 -- the lines that follow, behind the one that is told, if there is one
 abbrev pub told_first : {V : Type 0} → Option (Line V) → List (Told V) → List (Told V)
@@ -68,3 +75,8 @@ module _ {V A : Type 0} (W : Type 0) (g : Ghosts W V) (s : Scale V) (reads : ℕ
   CarriesOn asked before after r =
       (force : Option InForce) → Stands W g s reads against before.reader force → before.at ≡ layout before.capture.now before.at.map
       → Steps (Records before force (asked ∷ left before.acts)) r after
+
+  -- what `next` gives: a line, with which the listing goes on, or none where none is owed
+  abbrev pub Gives : Lines W V g → Option (Line V) → Lines W V g → Type 0
+  Gives before r after =
+      (force : Option InForce) → Ready before force → MatchOption r (Owes before force []) (λ line. Steps (Owes before force) (Some line) after)

@@ -66,6 +66,23 @@ impl Map {
 }
 
 impl Layout {
+    // Before the first record, where only the letter stands: the record behind it begins at place 1.
+    pub(crate) fn letter() -> Layout
+        ensures map { result.map ≡ 0 }
+        ensures end { result.end ≡ 1 }
+        ensures symbols { result.symbols ≡ 0 }
+    {
+        Layout {
+            map: 0,
+            octets: 0,
+            check: 0,
+            start: 0,
+            count: 0,
+            symbols: 0,
+            end: 1,
+        }
+    }
+
     // The layout of the record at a place.
     fn of(capture: &[u8], place: usize) -> Layout
         requires { place ≤ 32768 }

@@ -9,6 +9,7 @@ mod acting;
 mod captures;
 mod faults;
 mod letters;
+mod listings;
 mod telling;
 mod text;
 
@@ -152,4 +153,13 @@ pub struct Lines<'a, W: Weighing> {
     ghost within: { at.end ≤ 32768 },
     ghost near: { at.symbols ≤ 100000 },
     ghost counted: { records < at.end },
+}
+
+// What a reading makes of a capture, by the letter that it begins with.
+#[derive(Drop)]
+pub enum ByLetter<'a, W: Weighing> {
+    // its lines
+    Lines(Lines<'a, W>),
+    // nothing, since the letter is that of another reading
+    OfAnother,
 }

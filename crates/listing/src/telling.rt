@@ -1,8 +1,9 @@
 // Telling the lines of a capture one by one.
 ghost use Rattle.std.specs.Prelude.{◌≡◌, ◌<◌, ◌≤◌, []};
+ghost use Rattle.std.specs.Iterator.{at_most};
 ghost use Rattle.listing.specs.Captures.{asks, left};
-ghost use Rattle.listing.specs.Owed.{CarriesOn, GoesOn, todo};
-ghost use Rattle.listing.specs.declared.Stage.TheVariants.{Reading};
+ghost use Rattle.listing.specs.Owed.{CarriesOn, Gives, GoesOn, todo};
+ghost use Rattle.listing.specs.declared.Stage.TheVariants.{Ended, Reading};
 
 use crate::{Act, Acts, Fault, Layout, Line, Lines, Stage};
 use weighing::Reading;
@@ -54,5 +55,57 @@ impl<'a, R: Reading> Lines<'a, R> {
                 })
             }
         }
+    }
+
+    // One step: an act, the next record or the end. It tells a line or none.
+    fn step(&mut self) -> Option<Line<R::Value>>
+        requires { self.old.stage ≡ Ended → ⊥ }
+        ensures owes { GoesOn R R.Weighing R.Weighing.scale R.Reading.reads R.Reading.against self.old self.new result }
+        ensures fewer { todo self.new < todo self.old }
+    {
+        match self.stage {
+            Stage::TooLong => {
+                self.stage = Stage::Ended;
+                Some(Line::Faulty {
+                    record: 0,
+                    fault: Fault::TooLong,
+                })
+            }
+            Stage::NoLetter => {
+                self.stage = Stage::Stopped;
+                Some(Line::Faulty {
+                    record: 0,
+                    fault: Fault::Letter,
+                })
+            }
+            Stage::Reading => match self.acts.next() {
+                Some(act) => self.carry_out(act),
+                None => self.begin(),
+            },
+            Stage::Stopped => {
+                self.stage = Stage::Ended;
+                Some(Line::End {
+                    records: self.records,
+                })
+            }
+            Stage::Ended => None,
+        }
+    }
+}
+
+impl<'a, R: Reading> Iterator for Lines<'a, R> {
+    type Item = Line<R::Value>;
+
+    ghost next_gives = { Gives R R.Weighing R.Weighing.scale R.Reading.reads R.Reading.against };
+
+    ghost remaining = { λ lines. at_most (todo lines) };
+
+    fn next(&mut self) -> Option<Line<R::Value>> {
+        while self.stage != Stage::Ended {
+            if let Some(line) = self.step() {
+                return Some(line);
+            }
+        }
+        None
     }
 }

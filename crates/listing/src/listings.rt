@@ -1,0 +1,67 @@
+// The entry call.
+ghost use Rattle.std.specs.Prelude.{◌≡◌, ◌≤◌, length};
+ghost use Rattle.listing.specs.Owed.{Begins};
+ghost use Rattle.listing.specs.Whole.{ListsCapture};
+
+use crate::{Acts, ByLetter, Layout, Lettered, Lines, Reader, Stage};
+use search::Entry;
+
+// A capture has at most this many octets.
+const MOST_OCTETS: usize = 32768;
+
+// How the listing of a capture begins, by the reading with this letter; none where it is another reading's.
+fn first_stage(capture: &[u8], letter: u8) -> Option<Stage>
+    ensures { Begins letter capture.now result }
+{
+    if capture.len() > MOST_OCTETS {
+        return Some(Stage::TooLong);
+    }
+    match capture.first() {
+        Some(first) if *first == letter => Some(Stage::Reading),
+        Some(b'H' | b'S' | b'W') => None,
+        _ => Some(Stage::NoLetter),
+    }
+}
+
+// What is read of a capture: nothing of one that is too long.
+fn readable(capture: &[u8]) -> &[u8]
+    ensures few { length result.now ≤ 32768 }
+    ensures whole { length capture.now ≤ 32768 → result.now ≡ capture.now }
+{
+    if capture.len() > MOST_OCTETS {
+        &[]
+    } else {
+        capture
+    }
+}
+
+// The lines of a capture, by a reading: none where the capture begins with the letter of another. The tally need not be
+// cleared, and an opening is refused where it has under 32 * N entries. Afterwards the tally and the path weights hold anything.
+pub fn list<'a, R: Lettered>(
+    capture: &'a [u8],
+    tally: &'a mut [Entry<R::Value>],
+    paths: &'a mut [Option<R::Value>; 32],
+) -> ByLetter<'a, R>
+    ensures { ListsCapture R R.Weighing R.Weighing.scale R.Reading.reads R.Reading.against R.LETTER (length tally.old) capture.now ⟦<Lines<'a, R> as Iterator>⟧.next_gives result }
+{
+    let Some(stage) = first_stage(capture, R::LETTER) else {
+        return ByLetter::OfAnother;
+    };
+    // of a capture that is too long nothing is read
+    let read = capture
+        .get(..MOST_OCTETS)
+        .map_or(capture, |_| &capture[..0]);
+    ByLetter::Lines(Lines {
+        capture: readable(capture),
+        reader: Reader {
+            tally,
+            sheet: None,
+            next_start: 0,
+            paths,
+        },
+        at: Layout::letter(),
+        acts: Acts::none(),
+        records: 0,
+        stage,
+    })
+}
