@@ -1,0 +1,80 @@
+// Reads a capture from standard input and prints its listing.
+#![tactic(auto)]
+
+ghost use Rattle.std.specs.Prelude.{◌≤◌, length, IfOk};
+
+use listing::{ByLetter, Lettered, list};
+use search::Entry;
+use std::fmt;
+use std::io::{self, BufWriter, Read, Write};
+use weighing::hard::Hard;
+use weighing::soft::Soft;
+use weighing::worst::Worst;
+
+// One octet more than a capture may have, so that one that is too long is seen to be, and nothing is read behind it.
+const INPUT: usize = 32769;
+
+// The places of the tally, so that a block has up to 56 octets.
+const PLACES: usize = 1792;
+
+// Fills the buffer with what comes, up to the end of the input or of the buffer; answers how many octets came.
+fn fill(input: &mut impl Read, buffer: &mut [u8]) -> io::Result<usize>
+    ensures { IfOk result (λ octets. octets ≤ length buffer.new) }
+{
+    let mut filled = 0;
+    while filled < buffer.len() {
+        let count = input.read(&mut buffer[filled..])?;
+        if count == 0 {
+            break;
+        }
+        filled += count;
+    }
+    Ok(filled)
+}
+
+// Prints the listing of a capture, unless it begins with the letter of another reading; answers whether it does not.
+fn print<R: Lettered>(
+    capture: &[u8],
+    tally: &mut [Entry<R::Value>],
+    paths: &mut [Option<R::Value>; 32],
+    output: &mut impl Write,
+) -> io::Result<bool>
+where
+    R::Value: fmt::Display,
+{
+    match list::<R>(capture, tally, paths) {
+        ByLetter::OfAnother => Ok(false),
+        ByLetter::Lines(lines) => {
+            for line in lines {
+                writeln!(output, "{line}")?;
+            }
+            Ok(true)
+        }
+    }
+}
+
+// Reads a capture and prints its listing, over the memory that it is lent.
+fn run(
+    rt: &HostRuntime,
+    input: &mut [u8],
+    sums: &mut [Entry<u32>],
+    largest: &mut [Entry<u8>],
+) -> io::Result<()> {
+    let octets = fill(&mut rt.stdin(), input)?;
+    let capture = &input[..octets];
+    let mut output = BufWriter::new(rt.alloc(), io::writer(rt))?;
+    // one of the three finds its letter, or the first tells that there is none
+    let _told = print::<Hard>(capture, sums, &mut [None; 32], &mut output)?
+        || print::<Soft>(capture, sums, &mut [None; 32], &mut output)?
+        || print::<Worst>(capture, largest, &mut [None; 32], &mut output)?;
+    output.flush()
+}
+
+fn main(rt: HostRuntime) -> io::Result<()> {
+    run(
+        &rt,
+        &mut [0; INPUT],
+        &mut [Entry { zero: 0, one: 0 }; PLACES],
+        &mut [Entry { zero: 0, one: 0 }; PLACES],
+    )
+}
