@@ -1,5 +1,5 @@
 -- Carrying out acts, by what the calls of the sheet do. Assumes nothing.
-use Rattle.std.proofs.Common.{◌≡◌, ℕ, suc, ◌+◌, ◌*◌, ◌/◌, ◌%◌, ◌<◌, ◌≤◌, Bool, true, false, List, [], ◌∷◌, ◌++◌, length, length-append, get_or, take, Decides, Ok, Err, Some, None, Option, Result, refl, sym, ap, ◌∙◌, subst, arith, rules}
+use Rattle.std.proofs.Common.{◌≡◌, ℕ, suc, ◌+◌, ◌*◌, ◌/◌, ◌%◌, ◌<◌, ◌≤◌, Bool, true, false, List, [], ◌∷◌, ◌++◌, length, length-append, get_or, take, Decides, Ok, Err, Some, None, Option, refl, sym, ap, ◌∙◌, subst, arith, rules}
 use Rattle.std.specs.Option.{option_map, unwrap_or}
 use Rattle.std.proofs.lemmas.List.{ext_get_or, get_or-take, get_or_append_left, length-take-le}
 use Rattle.std.proofs.lemmas.Option.{none-some, same_Some}
@@ -14,9 +14,8 @@ use Rattle.block.proofs.Laws.{octet_same}
 use Rattle.code.specs.Register.{after as after_bits, cleared, tail, with_tail}
 use Rattle.weighing.specs.Scales.{Scale}
 use Rattle.weighing.specs.declared.Weighing.{Ghosts}
-use Rattle.search.specs.declared.Entry.{Entry}
 use Rattle.search.specs.declared.Found.{Found}
-use Rattle.sheet.specs.Books.{empty, noted, unlawful}
+use Rattle.sheet.specs.Books.{noted, unlawful}
 use Rattle.sheet.specs.Calls.{DecodeDoes, OpenDoes, TakeDoes, WipeDoes, block_of, open_case, take_case, take_checks}
 use Rattle.sheet.specs.declared.OpenRefusal.{OpenRefusal}
 use Rattle.sheet.specs.declared.Sheet.{Sheet}
@@ -24,11 +23,11 @@ use Rattle.sheet.specs.declared.TakeRefusal.{TakeRefusal}
 use Rattle.sheet.specs.declared.TakeRefusal.TheVariants.{Symbol}
 use Rattle.nearest.proofs.Keeping.{block_is, by_the_book, run_kept}
 use Rattle.nearest.specs.Runs.{Run, called, opened as run_opened, takes, wipes}
-use Rattle.listing.specs.Carrying.{CarriesOut, Faults, Holds, Silent, Stands, Tells, TellsAct}
+use Rattle.listing.specs.Carrying.{CarriesOut, Faults, Silent, Stands, Tells, TellsAct}
 use Rattle.listing.specs.Captures.{Asked, to_decode, to_open, to_take, to_wipe}
 use Rattle.listing.specs.Faults.{fault_case, says}
 use Rattle.listing.specs.Lines.{octets_of}
-use Rattle.listing.specs.Listings.{ActTells, InForce, block_of as force_block, act_checks, after_act, decoded, first_unlawful, opened, start_of, taken}
+use Rattle.listing.specs.Listings.{ActTells, InForce, block_of as force_block, act_checks, decoded, start_of}
 use Rattle.listing.specs.declared.Fault.{Fault}
 use Rattle.listing.specs.declared.Fault.TheVariants.{NoSheet}
 use Rattle.listing.specs.declared.Layout.{Layout}

@@ -1,18 +1,17 @@
 -- A listing that is told to its end. Assumes nothing.
-use Rattle.std.proofs.Common.{◌≡◌, ℕ, ◌<◌, ◌≤◌, Bool, true, false, cond, nat_lt, List, [], ◌∷◌, map, length, Some, None, Option, MatchBool, refl, sym, ap, ◌∙◌, subst, arith}
+use Rattle.std.proofs.Common.{◌≡◌, ℕ, ◌≤◌, Bool, true, false, cond, nat_lt, List, [], ◌∷◌, map, length, None, Option, MatchBool, refl, sym, ap, ◌∙◌, subst, arith}
 use Rattle.std.specs.Iterator.{Drains, YieldsThen}
 use Rattle.std.proofs.lemmas.Bool.Decides.{nat_tests}
 use Rattle.weighing.specs.Scales.{Scale}
 use Rattle.weighing.specs.declared.Weighing.{Ghosts}
-use Rattle.listing.specs.Captures.{is_letter, is_of_another, left, most_octets}
+use Rattle.listing.specs.Captures.{is_letter, left, most_octets}
 use Rattle.listing.specs.Faults.{fault_case}
 use Rattle.listing.specs.Lines.{Told, a_fault, tells, the_end}
 use Rattle.listing.specs.Listings.{InForce, IsListing, Listed}
-use Rattle.listing.specs.Owed.{Gives, Owes, OwesAt, Ready}
+use Rattle.listing.specs.Owed.{Gives, Owes, Ready}
 use Rattle.listing.specs.declared.Fault.TheVariants.{Letter, TooLong as too_long}
 use Rattle.listing.specs.declared.Line.{Line}
 use Rattle.listing.specs.declared.Lines.{Lines}
-use Rattle.listing.specs.declared.Stage.{Stage}
 use Rattle.listing.specs.declared.Stage.TheVariants.{NoLetter, Reading, TooLong}
 use Rattle.listing.proofs.Owing.{cast, none_left, owed_at, records_owed}
 

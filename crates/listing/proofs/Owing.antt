@@ -1,22 +1,22 @@
 -- What each step of a listing leaves to be told. Assumes nothing.
-use Rattle.std.proofs.Common.{◌≡◌, ℕ, suc, ◌+◌, ◌<◌, ◌≤◌, Bool, List, [], ◌∷◌, ◌++◌, length, Ok, Err, Some, None, Option, refl, sym, ap, ◌∙◌, subst, add-one, arith}
+use Rattle.std.proofs.Common.{◌≡◌, ℕ, suc, ◌+◌, ◌<◌, ◌≤◌, Bool, List, [], ◌∷◌, ◌++◌, length, Ok, Err, Some, None, Option, sym, ap, ◌∙◌, subst, add-one, arith}
 use Rattle.block.specs.Refusals.{first_refusal}
 use Rattle.weighing.specs.Scales.{Scale}
 use Rattle.weighing.specs.declared.Weighing.{Ghosts}
-use Rattle.listing.specs.Captures.{Asked, acts, asks, layout, left, record_checks}
+use Rattle.listing.specs.Captures.{Asked, acts, layout, left, record_checks}
 use Rattle.listing.specs.Carrying.{CarriesOut, Stands, TellsAct, named_lines}
 use Rattle.listing.specs.Faults.{fault_case, says}
-use Rattle.listing.specs.Lines.{Told, a_fault, tells, the_end}
+use Rattle.listing.specs.Lines.{Told, a_fault, the_end}
 use Rattle.listing.specs.Listings.{InForce, Listed, after_act, ended, first_unlawful, performed, refused, stopped, whole}
-use Rattle.listing.specs.Owed.{CarriesOn, Gives, GoesOn, Owes, OwesAt, Ready, Records, Steps, told_first}
+use Rattle.listing.specs.Owed.{CarriesOn, GoesOn, Owes, OwesAt, Records, told_first}
 use Rattle.listing.specs.declared.Fault.{Fault}
 use Rattle.listing.specs.declared.Layout.{Layout}
 use Rattle.listing.specs.declared.Line.{Line}
-use Rattle.listing.specs.declared.Line.TheVariants.{Decoded, End, Faulty}
+use Rattle.listing.specs.declared.Line.TheVariants.{End, Faulty}
 use Rattle.listing.specs.declared.Lines.{Lines}
 use Rattle.listing.specs.declared.Named.{Named}
 use Rattle.listing.specs.declared.Stage.{Stage}
-use Rattle.listing.specs.declared.Stage.TheVariants.{Ended, NoLetter, Reading, Stopped, TooLong}
+use Rattle.listing.specs.declared.Stage.TheVariants.{Ended, Reading, Stopped}
 
 pub cast : {X Y : Type 0} → X ≡ Y → X → Y
 cast e x = subst (λ Z. Z) e x
@@ -131,20 +131,3 @@ module _ {V A : Type 0} (W : Type 0) (g : Ghosts W V) (s : Scale V) (reads : ℕ
             subst (λ f. Records W g s reads against before force (asked ∷ left before.acts) (a_fault before.records f ∷ told))
             (sym (met.0.is ∙ ap (λ l. says l (first_unlawful reads asked) met.0.number) placed)) (refused met.0.refuses rest);
       }
-
-  -- steps that tell no line, one after another
-  pub no_step : (lines : Lines W V g) → GoesOn W g s reads against lines lines None
-  no_step lines force ready = record { force = force; ready = ready; owes = λ told owes. owes }
-
-  pub then_step : (first second third : Lines W V g) (r : Option (Line V)) → GoesOn W g s reads against first second None
-      → GoesOn W g s reads against second third r → GoesOn W g s reads against first third r
-  then_step first second third r before after force ready =
-      let one = before force ready in
-      let two = after one.force one.ready in
-      record { force = two.force; ready = two.ready; owes = λ told owes. one.owes (told_first r told) (two.owes told owes) }
-
-  -- where they end, no line is owed
-  pub none_owed : (first last : Lines W V g) → GoesOn W g s reads against first last None → last.stage ≡ Ended → Gives W g s reads against first None last
-  none_owed first last gone ended-now force ready =
-      let all = gone force ready in
-      all.owes [] (subst (λ x. OwesAt W g s reads against x last all.force []) (sym ended-now) refl)

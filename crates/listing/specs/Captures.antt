@@ -1,5 +1,5 @@
 -- A capture and its records. Assumes nothing.
-use Rattle.std.specs.Prelude.{◌≡◌, ℕ, ◌+◌, ◌*◌, Bool, false, cond, not, ◌&&◌, ◌||◌, List, [], ◌∷◌, ◌++◌, length, take, drop, Some, None, Option, nat_le, nat_lt, ◌==◌, slice_index_or}
+use Rattle.std.specs.Prelude.{ℕ, ◌+◌, ◌*◌, Bool, false, cond, not, ◌&&◌, ◌||◌, List, [], ◌∷◌, ◌++◌, length, take, drop, Some, None, Option, nat_le, nat_lt, ◌==◌, slice_index_or}
 use Rattle.block.specs.Bits.{bit}
 use Rattle.block.specs.Refusals.{Check, if_refuse}
 use Rattle.listing.specs.declared.Act.{Act}

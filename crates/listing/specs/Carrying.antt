@@ -1,16 +1,15 @@
 -- What carrying out an act does. Assumes nothing.
-use Rattle.std.specs.Prelude.{◌≡◌, ℕ, ◌<◌, ◌*◌, Bool, List, [], ◌∷◌, Some, None, Option, Result, MatchResult, length}
+use Rattle.std.specs.Prelude.{◌≡◌, ℕ, Bool, List, [], ◌∷◌, Some, None, Option, Result, MatchResult, length}
 use Rattle.block.specs.Refusals.{first_refusal}
 use Rattle.code.specs.Columns.{order_r}
 use Rattle.weighing.specs.Scales.{Scale}
 use Rattle.weighing.specs.declared.Weighing.{Ghosts}
 use Rattle.sheet.specs.declared.Sheet.{Sheet}
 use Rattle.nearest.specs.Runs.{Run}
-use Rattle.listing.specs.Captures.{Asked, asks}
+use Rattle.listing.specs.Captures.{Asked}
 use Rattle.listing.specs.Faults.{fault_case, says}
 use Rattle.listing.specs.Lines.{Told, a_decode, octets_of}
-use Rattle.listing.specs.Listings.{ActTells, InForce, TellsNearest, act_checks, after_act, first_unlawful, block_of}
-use Rattle.listing.specs.declared.Act.{Act}
+use Rattle.listing.specs.Listings.{ActTells, InForce, TellsNearest, act_checks, after_act, first_unlawful}
 use Rattle.listing.specs.declared.Fault.{Fault}
 use Rattle.listing.specs.declared.Layout.{Layout}
 use Rattle.listing.specs.declared.Named.{Named}

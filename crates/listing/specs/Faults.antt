@@ -1,5 +1,5 @@
 -- What each fault says: its layer, its place and its number. Assumes nothing.
-use Rattle.std.specs.Prelude.{◌≡◌, ℕ, ◌+◌, Bool, cond, ◌||◌, Some, None, Option, ◌==◌, nat_le}
+use Rattle.std.specs.Prelude.{ℕ, ◌+◌, cond, ◌||◌, Some, None, Option, ◌==◌, nat_le}
 use Rattle.listing.specs.Captures.{most_octets}
 use Rattle.listing.specs.declared.Fault.{Fault}
 use Rattle.listing.specs.declared.Fault.TheVariants.{TooLong, Letter, Unknown, CutShort, NoSheet, Open, Take}

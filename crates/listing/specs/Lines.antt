@@ -2,7 +2,6 @@
 use Rattle.std.specs.Prelude.{ℕ, ◌/◌, ◌%◌, Bool, false, cond, List, [], ◌∷◌, ◌++◌, take, codes, decimal, flat_map, Some, Option}
 use Rattle.std.specs.Fmt.{digit_glyph, ◌++?◌}
 use Rattle.listing.specs.Faults.{Says, fault_case}
-use Rattle.listing.specs.declared.Fault.{Fault}
 use Rattle.listing.specs.declared.Layer.{Layer}
 use Rattle.listing.specs.declared.Layer.TheVariants.{Listing, Sheet, Reading}
 use Rattle.listing.specs.declared.Line.{Line}

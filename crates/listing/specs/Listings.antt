@@ -1,6 +1,6 @@
 -- The listing of a capture: which lines tell it. It goes by the book of the sheet in force, which is kept from what the acts
 -- hand to the sheet. Assumes nothing.
-use Rattle.std.specs.Prelude.{◌≡◌, ℕ, zero, suc, ◌+◌, ◌*◌, ◌/◌, ◌%◌, ◌<◌, ◌≤◌, Bool, true, false, cond, List, [], ◌∷◌, ◌++◌, length, Decides, Some, None, Option, MatchBool, nat_lt}
+use Rattle.std.specs.Prelude.{◌≡◌, ℕ, suc, ◌+◌, ◌*◌, ◌/◌, ◌%◌, ◌<◌, ◌≤◌, Bool, true, List, [], ◌∷◌, ◌++◌, length, Decides, Some, None, Option, MatchBool, nat_lt}
 use Rattle.std.specs.Option.{unwrap_or}
 use Rattle.block.specs.Bits.{filled}
 use Rattle.block.specs.Checks.{CheckFits}
@@ -12,7 +12,7 @@ use Rattle.search.specs.Weights.{Nearest, weight}
 use Rattle.sheet.specs.Books.{Book, book_sums, empty, noted, unlawful}
 use Rattle.sheet.specs.Calls.{open_checks, take_checks}
 use Rattle.listing.specs.Captures.{Asked, acts, is_letter, layout, most_octets, record_checks, to_decode, to_open, to_take, to_wipe}
-use Rattle.listing.specs.Faults.{Says, fault_case, says}
+use Rattle.listing.specs.Faults.{fault_case, says}
 use Rattle.listing.specs.Lines.{Told, a_decode, a_fault, the_end}
 use Rattle.listing.specs.declared.Fault.TheVariants.{Letter, TooLong}
 

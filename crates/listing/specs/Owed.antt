@@ -1,13 +1,12 @@
 -- What a listing still owes, step by step: nothing here is part of what the library promises. Assumes nothing.
-use Rattle.std.specs.Prelude.{◌≡◌, ℕ, ◌+◌, ◌-◌, ◌*◌, ◌<◌, Bool, true, false, cond, List, [], ◌∷◌, length, Some, None, Option, MatchOption, nat_lt}
+use Rattle.std.specs.Prelude.{◌≡◌, ℕ, ◌+◌, ◌-◌, ◌*◌, Bool, true, false, cond, List, [], ◌∷◌, length, Some, None, Option, MatchOption, nat_lt}
 use Rattle.weighing.specs.Scales.{Scale}
 use Rattle.weighing.specs.declared.Weighing.{Ghosts}
-use Rattle.listing.specs.Captures.{Asked, asks, is_letter, is_of_another, layout, left, most_octets}
+use Rattle.listing.specs.Captures.{Asked, is_letter, is_of_another, layout, left, most_octets}
 use Rattle.listing.specs.Carrying.{Stands}
 use Rattle.listing.specs.Faults.{fault_case}
 use Rattle.listing.specs.Lines.{Told, a_fault, tells, the_end}
 use Rattle.listing.specs.Listings.{InForce, Listed}
-use Rattle.listing.specs.declared.Act.{Act}
 use Rattle.listing.specs.declared.Fault.TheVariants.{Letter, TooLong as too_long}
 use Rattle.listing.specs.declared.Line.{Line}
 use Rattle.listing.specs.declared.Lines.{Lines}

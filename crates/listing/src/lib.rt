@@ -20,7 +20,7 @@ use weighing::{Reading, Weighing};
 
 // An act that a record asks for. A rule of the project: a take borrows its symbols from the capture.
 #[derive(Clone, Copy, Debug, PartialEq)]
-pub enum Act<'a> {
+pub(crate) enum Act<'a> {
     Open {
         octets: usize,
         check: usize,
@@ -37,19 +37,19 @@ pub enum Act<'a> {
 // Where the fields of a record begin: the map, T, L, the start, the count and the symbols; and where the next record begins.
 // An absent field has the place at which it would begin.
 #[derive(Clone, Copy, Debug, PartialEq)]
-pub struct Layout {
-    pub map: usize,
-    pub octets: usize,
-    pub check: usize,
-    pub start: usize,
-    pub count: usize,
-    pub symbols: usize,
-    pub end: usize,
+pub(crate) struct Layout {
+    map: usize,
+    octets: usize,
+    check: usize,
+    start: usize,
+    count: usize,
+    symbols: usize,
+    end: usize,
 }
 
 // The acts of a record that are still to be carried out.
 #[derive(Clone, Copy, Debug, PartialEq)]
-pub struct Acts<'a> {
+pub(crate) struct Acts<'a> {
     open: Option<Act<'a>>,
     take: Option<Act<'a>>,
     decode: Option<Act<'a>>,

@@ -43,11 +43,20 @@ impl fmt::Display for Hex {
     }
 }
 
+impl Message {
+    // The report's octets.
+    pub fn octets(&self) -> &[u8]
+        ensures { result.now ≡ octets_of self.now }
+    {
+        &self.block[..self.octets]
+    }
+}
+
 impl fmt::Display for Message {
     ghost output = { λ message. Some (hex (octets_of message)) };
 
     fn fmt<W: fmt::Write>(&self, f: &mut fmt::Formatter<W>) -> fmt::Result {
-        for octet in &self.block[..self.octets] {
+        for octet in self.octets() {
             f.write(Hex(*octet))?;
         }
         Ok(())

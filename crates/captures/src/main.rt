@@ -1,0 +1,74 @@
+// Lists many captures: each line of standard input has a name, a colon and the capture's octets in hex.
+#![tactic(auto)]
+
+use anyhow::Context;
+use listing::{ByLetter, Lettered, list};
+use search::Entry;
+use std::alloc::Global;
+use std::fmt;
+use std::io::{self, BufRead, BufReader, BufWriter, Write};
+use weighing::hard::Hard;
+use weighing::soft::Soft;
+use weighing::worst::Worst;
+
+// The places of the tally, as in the program that lists one capture.
+const PLACES: usize = 1792;
+
+// The octets of a capture: each word is an octet in hex, or an octet, a star and how often it stands there.
+fn octets(heap: Global, words: &str) -> anyhow::Result<Vec<u8>> {
+    let mut octets = Vec::new(heap);
+    for word in words.split_whitespace() {
+        let (digits, times) = word.split_once('*').unwrap_or((word, "1"));
+        let octet = u8::from_str_radix(digits, 16)?;
+        for _ in 0..times.parse::<u32>()? {
+            octets.push(octet)?;
+        }
+    }
+    Ok(octets)
+}
+
+// Writes the listing of a capture by a reading, unless the capture is another's; answers whether it is not.
+fn write<R: Lettered>(
+    capture: &[u8],
+    tally: &mut [Entry<R::Value>],
+    paths: &mut [Option<R::Value>; 32],
+    output: &mut impl Write,
+) -> io::Result<bool>
+where
+    R::Value: fmt::Display,
+{
+    let ByLetter::Lines(lines) = list::<R>(capture, tally, paths) else {
+        return Ok(false);
+    };
+    for line in lines {
+        writeln!(output, "{line}")?;
+    }
+    Ok(true)
+}
+
+// Writes the name of each capture and its listing.
+fn run(rt: &HostRuntime, sums: &mut [Entry<u32>], largest: &mut [Entry<u8>]) -> anyhow::Result<()> {
+    let mut output = BufWriter::new(rt.alloc(), io::writer(rt))?;
+    for line in BufReader::new(rt.alloc(), rt.reader())?.lines(rt.alloc()) {
+        let line = line?;
+        let (name, words) = line
+            .split_once(':')
+            .context("a line has a name, a colon and octets")?;
+        let capture = octets(rt.alloc(), words)?;
+        let capture = capture.as_slice();
+        writeln!(output, "{name}:")?;
+        let _told = write::<Hard>(capture, sums, &mut [None; 32], &mut output)?
+            || write::<Soft>(capture, sums, &mut [None; 32], &mut output)?
+            || write::<Worst>(capture, largest, &mut [None; 32], &mut output)?;
+    }
+    output.flush()?;
+    Ok(())
+}
+
+fn main(rt: HostRuntime) -> anyhow::Result<()> {
+    run(
+        &rt,
+        &mut [Entry { zero: 0, one: 0 }; PLACES],
+        &mut [Entry { zero: 0, one: 0 }; PLACES],
+    )
+}
