@@ -35,8 +35,9 @@ fn readable(capture: &[u8]) -> &[u8]
     }
 }
 
-// The lines of a capture, by a reading: none where the capture begins with the letter of another. The tally need not be
-// cleared, and an opening is refused where it has under 32 * N entries. Afterwards the tally and the path weights hold anything.
+// The lines of a capture by a reading, unless it begins with the letter of another. Sheets are opened over the tally, which need
+// not be cleared, and which refuses an opening where it has under 32 * N entries. Tally and path weights are the listing's
+// working memory: what they hold afterwards is free.
 pub fn list<'a, R: Lettered>(
     capture: &'a [u8],
     tally: &'a mut [Entry<R::Value>],
@@ -47,10 +48,6 @@ pub fn list<'a, R: Lettered>(
     let Some(stage) = first_stage(capture, R::LETTER) else {
         return ByLetter::OfAnother;
     };
-    // of a capture that is too long nothing is read
-    let read = capture
-        .get(..MOST_OCTETS)
-        .map_or(capture, |_| &capture[..0]);
     ByLetter::Lines(Lines {
         capture: readable(capture),
         reader: Reader {
