@@ -106,9 +106,7 @@ impl Layout {
             },
         }
     }
-}
 
-impl Layout {
     // The layout of the record at a place, if it is read: its map is tested first, and then whether it is cut short.
     pub(crate) fn read(capture: &[u8], place: usize) -> Result<Layout, Fault>
         requires { place ≤ 32768 }
