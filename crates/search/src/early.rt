@@ -39,10 +39,7 @@ impl<W: Weighing> EarlyStage<'_, W> {
         ensures { option_map W.scale.mean result ≡ thro W.scale (costing W.scale self.now.costs) (meant W.scale self.now.old.now) odd state.number }
     {
         let from = state.predecessor(odd);
-        // not `?`, which takes a quarter longer here
-        let Some(weight) = self.old[from.number as usize] else {
-            return None;
-        };
+        let weight = self.old[from.number as usize]?;
         let outputs = state.outputs_from(from);
         Some(W::sum(weight, self.costs.of_outputs(outputs)))
     }

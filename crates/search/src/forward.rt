@@ -72,6 +72,7 @@ impl<W: Weighing> Block<'_, W> {
         ensures { Best W.scale self.now.order.now.columns self.now.n (entry_sums W.scale self.now.tally.now) survivors.new (meant_all W.scale result) (length survivors.new) }
     {
         let mut paths = paths;
+        // by index, since in a loop over a `skip` no invariant can name the words
         for t in EARLY_STEPS..survivors.len() {
             let chosen = self.advance(t, paths);
             survivors[t] = chosen.word;

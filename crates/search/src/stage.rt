@@ -1,4 +1,4 @@
-// The steps before which each state is reached.
+// The steps before which every state is reached.
 ghost use Rattle.std.specs.Prelude.{◌≡◌, ℕ, ◌+◌, ◌*◌, ◌<◌, Bool, Some, None, IsSome, slice_index_or};
 ghost use Rattle.block.specs.Bits.{bit, value};
 ghost use Rattle.code.specs.Register.{Cells, state_of};
@@ -59,8 +59,8 @@ fn whole_word(rows: Quad<u16>) -> u16
     rows.zero + 16 * rows.one + 256 * rows.two + 4096 * rows.three
 }
 
-// One step of the trellis: what it weighs by its outputs, and the path weights of the sixteen states before it. All is
-// written out and inlined, so that the compiler folds what it knows of each state, which it does not do in a loop over states.
+// One step of the trellis: what it weighs by its outputs, and the path weights of the sixteen states before it. The choices
+// are written out and inlined, so that the compiler folds what is fixed for each state; a loop over the states it leaves as it is.
 #[derive(Drop)]
 pub(crate) struct Stage<W: Weighing> {
     pub(crate) costs: Sixteen<W::Value>,
