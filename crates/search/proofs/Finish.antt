@@ -13,23 +13,24 @@ use Rattle.search.proofs.Bridge.{after_ends, is_with_tail, weight_path, with_tai
 use Rattle.search.proofs.Traces.{split}
 use Rattle.search.proofs.Trellis.{origin_length}
 
--- without survivors each state is led to from state 0, in four steps
+-- Behind bits after which every cell is 0, a path ends as it does alone.
 ends_behind : (us vs : List Bool) → ends vs ≡ cleared → ends (us ++ vs) ≡ ends us
 ends_behind [] vs e = e
 ends_behind (u ∷ us) vs e = ap (λ m. next m u) (ends_behind us vs e)
 
+-- The path that no survivors give stays in state 0 once it is there, and four steps lead from there to each state.
 still : (t : ℕ) → ends (origin [] t 0) ≡ cleared
 unfolding predecessor input
 still zero = refl
 still (suc t) = ap (λ m. next m false) (still t)
 
-leads_test : ℕ → Bool
-leads_test k = eqb (start [] 4 k) 0 && eqb (state_of (ends (origin [] 4 k))) k
+four_steps_test : ℕ → Bool
+four_steps_test k = eqb (start [] 4 k) 0 && eqb (state_of (ends (origin [] 4 k))) k
 
 leads_to : (m k : ℕ) → k < 16 → state_of (ends (origin [] (m + 4) k)) ≡ k
-unfolding predecessor input leads_test
+unfolding predecessor input four_steps_test
 leads_to m k h =
-    let tests = and_parts _ _ (below 16 leads_test refl k h) in
+    let tests = and_parts _ _ (below 16 four_steps_test refl k h) in
     let begins : ends (origin [] m (start [] 4 k)) ≡ cleared = ap (λ j. ends (origin [] m j)) (eqb-true _ _ tests.0) ∙ still m in
     ap (λ us. state_of (ends us)) (split [] [] m 4 k (λ i l. refl))
     ∙ ap state_of (ends_behind (origin [] 4 k) (origin [] m (start [] 4 k)) begins)

@@ -20,7 +20,7 @@ pub predecessor_small : (odd : Bool) (s : ℕ) → predecessor odd s < 16
 unfolding predecessor
 predecessor_small odd s = omega (arith, value_small odd)
 
--- a state's number tells its cells, which tell its number
+-- the cells of a state tell its number
 pub state_cells : (k : ℕ) → k < 16 → state_of (cells_of k) ≡ k
 state_cells k h = eqb-true _ _ (below 16 (λ j. eqb (state_of (cells_of j)) j) refl k h)
 

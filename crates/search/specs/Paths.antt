@@ -78,11 +78,11 @@ module _ {V : Type 0} (s : Scale V) where
   abbrev pub meant : List (Option V) → ℕ → Option s.Meaning
   meant paths k = option_map s.mean (slice_index_or paths k None)
 
-  -- and if each is reached
+  -- and what plain ones mean, where each state is reached
   abbrev pub meant_all : Quad (Quad V) → ℕ → Option s.Meaning
   meant_all paths k = Some (s.mean (of_cells paths (cells_of k)))
 
-  -- what weights by outputs mean
+  -- what the weights of a step by its outputs mean
   abbrev pub costing : Quad (Quad V) → Outputs → s.Meaning
   costing costs v = s.mean (of_outputs costs v)
 

@@ -1,4 +1,4 @@
-// A value for each number of two bits, and of four.
+// A value for each number of two bits, and of four. Inlined, so that the compiler folds bits that are fixed.
 ghost use Rattle.std.specs.Prelude.{◌≡◌};
 ghost use Rattle.code.specs.Register.{cells_of};
 ghost use Rattle.search.specs.Paths.{of_cells, of_outputs as by_outputs, picked};
@@ -9,6 +9,7 @@ use block::bit_of;
 use code::Outputs;
 
 impl<T: Copy> Quad<T> {
+    // The value for the number of these two bits.
     #[inline(always)]
     pub(crate) fn at(self, high: bool, low: bool) -> T
         ensures { result ≡ picked high low self }
@@ -23,6 +24,7 @@ impl<T: Copy> Quad<T> {
 }
 
 impl<T: Copy> Quad<Quad<T>> {
+    // A state's value.
     #[inline(always)]
     pub(crate) fn of_state(self, state: State) -> T
         ensures { result ≡ of_cells self (cells_of state.number) }
@@ -32,6 +34,7 @@ impl<T: Copy> Quad<Quad<T>> {
             .at(bit_of(number, 1), bit_of(number, 0))
     }
 
+    // The value for a row of outputs.
     #[inline(always)]
     pub(crate) fn of_outputs(self, outputs: Outputs) -> T
         ensures { result ≡ by_outputs self outputs }
