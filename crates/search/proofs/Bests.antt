@@ -1,14 +1,14 @@
 -- The search's invariant: it holds at the start, one step keeps it. Assumes nothing.
-use Rattle.std.proofs.Common.{◌≡◌, ℕ, zero, suc, ◌<◌, Bool, List, [], ◌∷◌, length, get_or, IfSome, Some, None, Option, sym, refl, ap, ◌∙◌, subst, arith, set, replicate, ◌+◌, add-one, get_or-set_other, get_or-set_same, MatchOption}
+use Rattle.std.proofs.Common.{◌≡◌, ℕ, zero, suc, ◌<◌, ◌≤◌, Bool, List, [], ◌∷◌, ◌++◌, length, get_or, IfSome, Some, None, Option, sym, refl, ap, ◌∙◌, subst, arith, set, replicate, ◌+◌, add-one, get_or-set_other, get_or-set_same, MatchOption}
 use Rattle.std.specs.Option.{option_map}
-use Rattle.std.proofs.lemmas.List.{get_or-replicate}
+use Rattle.std.proofs.lemmas.List.{get_or-replicate, get_or_append_left}
 use Rattle.block.specs.Bits.{bit}
 use Rattle.code.specs.declared.Outputs.{Outputs}
 use Rattle.code.specs.Register.{Cells, cells_of, next, outputs, state_of}
 use Rattle.code.proofs.Steps.{cells_state}
 use Rattle.weighing.specs.Scales.{Scale}
 use Rattle.search.specs.Weights.{Sums}
-use Rattle.search.specs.Paths.{Best, Lighter, Settled, behind, ends, input, meant, origin, path_weight, predecessor, step_weight, through}
+use Rattle.search.specs.Paths.{Best, Lighter, Lightest, Settled, behind, ends, input, meant, origin, path_weight, predecessor, step_weight, through}
 use Rattle.search.proofs.Orders.{reflexive, lighter_behind, lighter_trans}
 use Rattle.search.proofs.Trellis.{came_from, leads, origin_length, origin_same, predecessor_small, state_small}
 
@@ -27,26 +27,36 @@ module _ {V : Type 0} (s : Scale V) (order : List ℕ) (n : ℕ) (sums : Sums s)
     start_every k [] e to = subst (λ j. Lighter s (meant s begun j) (Some s.zero)) to (subst (λ w. s.atmost w s.zero) (sym zero_is) (reflexive s s.zero))
     start_every k (u ∷ us) e to = absurd (omega arith)
 
-    pub best_start : Best s order n sums survivors begun 0
+    pub best_start : Best s order n sums survivors (meant s begun) 0
     best_start k h = record { every = start_every k; held = start_held k h }
 
-  module _ (survivors kept : List ℕ) (paths new : List (Option V)) (t word : ℕ)
+  -- words behind those of the steps change nothing
+  pub lightest_behind : (survivors rest : List ℕ) (t k : ℕ) (w : Option s.Meaning) → t ≤ length survivors
+      → Lightest s order n sums survivors t k w → Lightest s order n sums (survivors ++ rest) t k w
+  lightest_behind survivors rest t k w within lightest =
+      let same : origin survivors t k ≡ origin (survivors ++ rest) t k = origin_same survivors (survivors ++ rest) t k (λ i h. sym (get_or_append_left survivors rest 0 i (omega arith))) in
+      record {
+        every = lightest.every;
+        held = subst (λ us. MatchOption w (Unit {0}) (λ v. (state_of (ends us) ≡ k) × (v ≡ path_weight s order n sums us))) same lightest.held;
+      }
+
+  module _ (survivors kept : List ℕ) (paths new : ℕ → Option s.Meaning) (t word : ℕ)
       (best : Best s order n sums survivors paths t)
       (same : (k : ℕ) → k < t → get_or kept k 0 ≡ get_or survivors k 0)
       (noted : get_or kept t 0 ≡ word)
-      (settled : (k : ℕ) → k < 16 → Settled s (step_weight s order n sums t) paths (meant s new k) (bit k word) k) where
-    is_through : (k : ℕ) → k < 16 → meant s new k ≡ behind s (meant s paths (predecessor (bit k word) k)) (step_weight s order n sums t (outputs (cells_of (predecessor (bit k word) k)) (input (predecessor (bit k word) k) k)))
+      (settled : (k : ℕ) → k < 16 → Settled s (step_weight s order n sums t) paths (new k) (bit k word) k) where
+    is_through : (k : ℕ) → k < 16 → new k ≡ behind s (paths (predecessor (bit k word) k)) (step_weight s order n sums t (outputs (cells_of (predecessor (bit k word) k)) (input (predecessor (bit k word) k) k)))
     unfolding through
     is_through k h = (settled k h).is
 
     -- a step that is made goes through one of the two predecessors
-    along : (m : Cells) (u : Bool) → through s (step_weight s order n sums t) paths (bit 0 (state_of m)) (state_of (next m u)) ≡ behind s (meant s paths (state_of m)) (step_weight s order n sums t (outputs m u))
+    along : (m : Cells) (u : Bool) → through s (step_weight s order n sums t) paths (bit 0 (state_of m)) (state_of (next m u)) ≡ behind s (paths (state_of m)) (step_weight s order n sums t (outputs m u))
     unfolding through
     along m u =
         let k = state_of (next m u) in
         let came = came_from m u in
-        ap (λ p. behind s (meant s paths p) (step_weight s order n sums t (outputs (cells_of p) (input p k)))) came.0
-        ∙ (λ i. behind s (meant s paths (state_of m)) (step_weight s order n sums t (outputs (cells_state m i) (came.1 i))))
+        ap (λ p. behind s (paths p) (step_weight s order n sums t (outputs (cells_of p) (input p k)))) came.0
+        ∙ (λ i. behind s (paths (state_of m)) (step_weight s order n sums t (outputs (cells_state m i) (came.1 i))))
 
     -- one bit more behind the path to a predecessor
     extend : (p k : ℕ) (x : Option s.Meaning) (odd : Bool) → predecessor odd k ≡ p → k < 16 → (before : List Bool) → length before ≡ t
@@ -60,7 +70,7 @@ module _ {V : Type 0} (s : Scale V) (order : List ℕ) (n : ℕ) (sums : Sums s)
           (λ i. s.plus (held.1 i) (step_weight s order n sums (sym long i) (outputs (cells i) (input p k)))),
         )
 
-    step_every : (us : List Bool) → length us ≡ suc t → Lighter s (meant s new (state_of (ends us))) (Some (path_weight s order n sums us))
+    step_every : (us : List Bool) → length us ≡ suc t → Lighter s (new (state_of (ends us))) (Some (path_weight s order n sums us))
     step_every [] e = absurd (omega arith)
     step_every (u ∷ us) e =
         let m = ends us in
@@ -69,36 +79,36 @@ module _ {V : Type 0} (s : Scale V) (order : List ℕ) (n : ℕ) (sums : Sums s)
         let came = came_from m u in
         let long : length us ≡ t = omega arith in
         let c = step_weight s order n sums t (outputs m u) in
-        let route : through s (step_weight s order n sums t) paths odd k ≡ behind s (meant s paths (state_of m)) c = along m u in
-        lighter_trans s (meant s new k) (behind s (meant s paths (state_of m)) c) (Some (path_weight s order n sums (u ∷ us)))
-        (subst (Lighter s (meant s new k)) route ((settled k (state_small (next m u))).least odd))
-        (subst (λ l. Lighter s (behind s (meant s paths (state_of m)) c) (Some (s.plus (path_weight s order n sums us) (step_weight s order n sums l (outputs m u))))) (sym long)
-        (lighter_behind s (meant s paths (state_of m)) (Some (path_weight s order n sums us)) c ((best (state_of m) (state_small m)).every us long refl)))
+        let route : through s (step_weight s order n sums t) paths odd k ≡ behind s (paths (state_of m)) c = along m u in
+        lighter_trans s (new k) (behind s (paths (state_of m)) c) (Some (path_weight s order n sums (u ∷ us)))
+        (subst (Lighter s (new k)) route ((settled k (state_small (next m u))).least odd))
+        (subst (λ l. Lighter s (behind s (paths (state_of m)) c) (Some (s.plus (path_weight s order n sums us) (step_weight s order n sums l (outputs m u))))) (sym long)
+        (lighter_behind s (paths (state_of m)) (Some (path_weight s order n sums us)) c ((best (state_of m) (state_small m)).every us long refl)))
 
-    step_held : (k : ℕ) → k < 16 → IfSome (meant s new k) (λ w. (state_of (ends (origin kept (suc t) k)) ≡ k) × (w ≡ path_weight s order n sums (origin kept (suc t) k)))
+    step_held : (k : ℕ) → k < 16 → IfSome (new k) (λ w. (state_of (ends (origin kept (suc t) k)) ≡ k) × (w ≡ path_weight s order n sums (origin kept (suc t) k)))
     step_held k h =
         let p = predecessor (bit k word) k in
         let before = origin survivors t p in
         let given : origin kept (suc t) k ≡ input p k ∷ before =
         ap (λ w. input (predecessor (bit k w) k) k ∷ origin kept t (predecessor (bit k w) k)) noted ∙ ap (λ rest. input p k ∷ rest) (origin_same kept survivors t p same) in
-        subst (λ us. IfSome (meant s new k) (λ w. (state_of (ends us) ≡ k) × (w ≡ path_weight s order n sums us))) (sym given)
+        subst (λ us. IfSome (new k) (λ w. (state_of (ends us) ≡ k) × (w ≡ path_weight s order n sums us))) (sym given)
         (subst (λ x. IfSome x (λ w. (state_of (ends (input p k ∷ before)) ≡ k) × (w ≡ path_weight s order n sums (input p k ∷ before)))) (sym (is_through k h))
-        (extend p k (meant s paths p) (bit k word) refl h before (origin_length survivors t p) (best p (predecessor_small (bit k word) k)).held))
+        (extend p k (paths p) (bit k word) refl h before (origin_length survivors t p) (best p (predecessor_small (bit k word) k)).held))
 
     stepped : Best s order n sums kept new (suc t)
     stepped k h = record {
-      every = λ us e to. subst (λ j. Lighter s (meant s new j) (Some (path_weight s order n sums us))) to (step_every us e);
+      every = λ us e to. subst (λ j. Lighter s (new j) (Some (path_weight s order n sums us))) to (step_every us e);
       held = step_held k h;
     }
 
   -- a step that settles every state by the weights of its outputs, and notes its word
-  pub best_more : (survivors : List ℕ) (paths new : List (Option V)) (t word : ℕ) (cost : Outputs → s.Meaning)
+  pub best_more : (survivors : List ℕ) (paths new : ℕ → Option s.Meaning) (t word : ℕ) (cost : Outputs → s.Meaning)
       → t < length survivors → Best s order n sums survivors paths t
       → ((v : Outputs) → cost v ≡ step_weight s order n sums t v)
-      → ((k : ℕ) → k < 16 → Settled s cost paths (meant s new k) (bit k word) k)
+      → ((k : ℕ) → k < 16 → Settled s cost paths (new k) (bit k word) k)
       → Best s order n sums (set survivors t word) new (t + 1)
   best_more survivors paths new t word cost within best costs settled =
       subst (Best s order n sums (set survivors t word) new) (sym (add-one t))
       (stepped survivors (set survivors t word) paths new t word best
       (λ k h. get_or-set_other survivors t k word 0 (λ e. omega arith)) (get_or-set_same survivors t word 0 within)
-      (λ k h. subst (λ c. Settled s c paths (meant s new k) (bit k word) k) (λ i v. costs v i) (settled k h)))
+      (λ k h. subst (λ c. Settled s c paths (new k) (bit k word) k) (λ i v. costs v i) (settled k h)))

@@ -1,14 +1,40 @@
 -- The end of the search: the message that the survivors give is nearest. Assumes nothing.
-use Rattle.std.proofs.Common.{◌≡◌, ℕ, ◌+◌, ◌-◌, ◌≤◌, IsSome, refl, arith, Bool, false, List, reverse, length, take, replicate, Some, None, Option, sym, ap, ◌∙◌, subst}
+use Rattle.std.proofs.Common.{◌≡◌, ℕ, zero, suc, ◌+◌, ◌-◌, ◌<◌, ◌≤◌, IsSome, refl, arith, Bool, false, ◌&&◌, eqb, List, [], ◌∷◌, ◌++◌, reverse, length, take, Some, None, Option, sym, ap, ◌∙◌, subst}
+use Rattle.std.proofs.lemmas.Bool.{and_parts, eqb-true}
 use Rattle.std.specs.Option.{option_map}
-use Rattle.std.proofs.lemmas.List.{length-replicate, length-reverse, reverse-reverse}
-use Rattle.code.specs.Register.{cells_of, state_of, with_tail}
+use Rattle.std.proofs.lemmas.List.{length-reverse, reverse-reverse}
+use Rattle.block.proofs.Computed.{below}
+use Rattle.code.specs.Register.{cells_of, cleared, next, state_of, with_tail}
 use Rattle.code.proofs.Steps.{cells_state}
 use Rattle.weighing.specs.Scales.{Scale}
 use Rattle.search.specs.Weights.{Sums, weight}
-use Rattle.search.specs.Paths.{Lightest, Traced, ends, origin, path_weight}
+use Rattle.search.specs.Paths.{Lightest, Traced, ends, input, origin, path_weight, predecessor, start}
 use Rattle.search.proofs.Bridge.{after_ends, is_with_tail, weight_path, with_tail_clears, with_tail_length}
+use Rattle.search.proofs.Traces.{split}
 use Rattle.search.proofs.Trellis.{origin_length}
+
+-- Behind bits after which every cell is 0, a path ends as it does alone.
+ends_behind : (us vs : List Bool) → ends vs ≡ cleared → ends (us ++ vs) ≡ ends us
+ends_behind [] vs e = e
+ends_behind (u ∷ us) vs e = ap (λ m. next m u) (ends_behind us vs e)
+
+-- The path that no survivors give stays in state 0 once it is there, and four steps lead from there to each state.
+still : (t : ℕ) → ends (origin [] t 0) ≡ cleared
+unfolding predecessor input
+still zero = refl
+still (suc t) = ap (λ m. next m false) (still t)
+
+four_steps_test : ℕ → Bool
+four_steps_test k = eqb (start [] 4 k) 0 && eqb (state_of (ends (origin [] 4 k))) k
+
+leads_to : (m k : ℕ) → k < 16 → state_of (ends (origin [] (m + 4) k)) ≡ k
+unfolding predecessor input four_steps_test
+leads_to m k h =
+    let tests = and_parts _ _ (below 16 four_steps_test refl k h) in
+    let begins : ends (origin [] m (start [] 4 k)) ≡ cleared = ap (λ j. ends (origin [] m j)) (eqb-true _ _ tests.0) ∙ still m in
+    ap (λ us. state_of (ends us)) (split [] [] m 4 k (λ i l. refl))
+    ∙ ap state_of (ends_behind (origin [] 4 k) (origin [] m (start [] 4 k)) begins)
+    ∙ eqb-true _ _ tests.1
 
 -- the path of a message with its tail, the latest bit first
 abbrev path_of : List Bool → List Bool
@@ -21,14 +47,12 @@ path_length : (bits : ℕ) (message : List Bool) → length message ≡ bits →
 path_length bits message e = length-reverse (with_tail message) ∙ with_tail_length message ∙ ap (λ x. x + 4) e
 
 module _ {V : Type 0} (s : Scale V) (order : List ℕ) (n : ℕ) (sums : Sums s) (survivors : List ℕ) where
-  -- the message of zeros ends in state 0, so state 0 is reached
-  pub reached : (t : ℕ) (ended : Option V) → 4 ≤ t → Lightest s order n sums survivors t 0 (option_map s.mean ended) → IsSome ended
-  reached t None h lightest =
-      let bits = t - 4 in
-      let whole : bits + 4 ≡ t = omega arith in
-      let zeros = replicate bits false in
-      absurd (lightest.every (path_of zeros) (path_length bits zeros (length-replicate bits false) ∙ whole) (path_ends zeros))
-  reached t (Some w) h lightest = refl
+  -- so after four steps and more each state is reached
+  pub reached : (t k : ℕ) (paths : Option V) → 4 ≤ t → k < 16 → Lightest s order n sums survivors t k (option_map s.mean paths) → IsSome paths
+  reached t k None late small lightest =
+      let whole : t - 4 + 4 ≡ t = omega arith in
+      absurd (lightest.every (origin [] t k) (origin_length [] t k) (subst (λ m. state_of (ends (origin [] m k)) ≡ k) whole (leads_to (t - 4) k small)))
+  reached t k (Some w) late small lightest = refl
 
   module _ (bits : ℕ) (w : s.Meaning) (lightest : Lightest s order n sums survivors (bits + 4) 0 (Some w)) where
     abbrev path : List Bool

@@ -4,6 +4,7 @@ pub mod Bests
 pub mod Bridge
 pub mod Placing
 pub mod Words
+pub mod Rows
 pub mod Settling
 pub mod Finish
 pub mod Fronts

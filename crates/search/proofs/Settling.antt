@@ -7,7 +7,7 @@ use Rattle.weighing.specs.Scales.{Scale}
 use Rattle.search.specs.Paths.{Settled, meant}
 use Rattle.search.proofs.Words.{bit_new, bit_old, longer}
 
-pub settled_more : {V : Type 0} (s : Scale V) (cost : Outputs → s.Meaning) (old new : List (Option V)) (word k : ℕ) (odd : Bool) (weight : Option V)
+pub settled_more : {V : Type 0} (s : Scale V) (cost : Outputs → s.Meaning) (old : ℕ → Option s.Meaning) (new : List (Option V)) (word k : ℕ) (odd : Bool) (weight : Option V)
     → k < 16 → k < length new → word < 2 ^ k
     → ((j : ℕ) → j < k → Settled s cost old (meant s new j) (bit j word) j)
     → Settled s cost old (option_map s.mean weight) odd k

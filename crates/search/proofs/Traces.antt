@@ -31,7 +31,7 @@ pub start_more : (survivors : List ℕ) (above t s p : ℕ) → above ≡ t + 1 
 start_more survivors above t s p up from = ap (start survivors t) from ∙ ap (λ n. start survivors n s) (sym (up ∙ add-one t))
 
 -- a path by its last k steps and those before
-split : (survivors words : List ℕ) (m k s : ℕ) → ((i : ℕ) → i < k → get_or words i 0 ≡ get_or survivors (m + i) 0)
+pub split : (survivors words : List ℕ) (m k s : ℕ) → ((i : ℕ) → i < k → get_or words i 0 ≡ get_or survivors (m + i) 0)
     → origin survivors (m + k) s ≡ origin words k s ++ origin survivors m (start words k s)
 split survivors words m zero s same = ap (λ n. origin survivors n s) (add-zero m)
 split survivors words m (suc k) s same =

@@ -9,7 +9,7 @@ use Rattle.code.specs.Register.{Cells, cells_of, next, state_of}
 use Rattle.code.proofs.Steps.{cells_state}
 use Rattle.search.specs.Paths.{input, origin, predecessor}
 
-value_small : (b : Bool) → value b < 2
+pub value_small : (b : Bool) → value b < 2
 value_small true = omega arith
 value_small false = omega arith
 
@@ -19,6 +19,10 @@ state_small m = omega (arith, value_small m.m1, value_small m.m2, value_small m.
 pub predecessor_small : (odd : Bool) (s : ℕ) → predecessor odd s < 16
 unfolding predecessor
 predecessor_small odd s = omega (arith, value_small odd)
+
+-- the cells of a state tell its number
+pub state_cells : (k : ℕ) → k < 16 → state_of (cells_of k) ≡ k
+state_cells k h = eqb-true _ _ (below 16 (λ j. eqb (state_of (cells_of j)) j) refl k h)
 
 -- each bit leads from the predecessor to the state
 abbrev leads_test : Bool → ℕ → Bool

@@ -1,6 +1,6 @@
 -- Paths through the trellis, as the search goes: nothing here is part of what the search promises.
 -- A path is a row of bits with the latest first, so that one bit more is `∷`. Assumes nothing.
-use Rattle.std.specs.Prelude.{◌≡◌, ℕ, zero, suc, ◌+◌, ◌*◌, ◌%◌, ◌<◌, ◌≤◌, Bool, List, [], ◌∷◌, reverse, length, take, Some, None, Option, MatchOption, slice_index, slice_index_or}
+use Rattle.std.specs.Prelude.{◌≡◌, ℕ, zero, suc, ◌+◌, ◌*◌, ◌%◌, ◌<◌, ◌≤◌, Bool, cond, List, [], ◌∷◌, reverse, length, take, Some, None, Option, MatchOption, slice_index, slice_index_or}
 use Rattle.std.specs.Option.{option_map}
 use Rattle.block.specs.Bits.{bit, value}
 use Rattle.code.specs.Columns.{index_of}
@@ -8,12 +8,27 @@ use Rattle.code.specs.Register.{Cells, ◌⊕◌, cells_of, cleared, feedback, n
 use Rattle.code.specs.declared.Outputs.{Outputs}
 use Rattle.weighing.specs.Scales.{Scale}
 use Rattle.search.specs.Weights.{Nearest, Sums, part, side, weight}
+use Rattle.search.specs.declared.Quad.{Quad}
 use Rattle.search.specs.declared.StepEntries.{StepEntries}
 
 -- the cells at the end of a path
 abbrev pub ends : List Bool → Cells
 ends [] = cleared
 ends (u ∷ us) = next (ends us) u
+
+-- these four cells
+abbrev pub cells : Bool → Bool → Bool → Bool → Cells
+cells a b c d = record { m1 = a; m2 = b; m3 = c; m4 = d }
+
+-- the value for a number of two bits, and those for four cells and for four outputs
+abbrev pub picked : {A : Type 0} → Bool → Bool → Quad A → A
+picked high low all = cond high (cond low all.three all.two) (cond low all.one all.zero)
+
+abbrev pub of_cells : {A : Type 0} → Quad (Quad A) → Cells → A
+of_cells all m = picked m.m3 m.m4 (picked m.m1 m.m2 all)
+
+abbrev pub of_outputs : {A : Type 0} → Quad (Quad A) → Outputs → A
+of_outputs all v = picked v.v3 v.v4 (picked v.v1 v.v2 all)
 
 -- the two predecessors of state s, even and odd
 unfoldable pub predecessor : Bool → ℕ → ℕ
@@ -63,11 +78,19 @@ module _ {V : Type 0} (s : Scale V) where
   abbrev pub meant : List (Option V) → ℕ → Option s.Meaning
   meant paths k = option_map s.mean (slice_index_or paths k None)
 
+  -- and what plain ones mean, where each state is reached
+  abbrev pub meant_all : Quad (Quad V) → ℕ → Option s.Meaning
+  meant_all paths k = Some (s.mean (of_cells paths (cells_of k)))
+
+  -- what the weights of a step by its outputs mean
+  abbrev pub costing : Quad (Quad V) → Outputs → s.Meaning
+  costing costs v = s.mean (of_outputs costs v)
+
   -- The choice at state k: the new path weight goes through the predecessor that is named, and is lighter than both.
-  -- cost gives the weight of a step by its outputs.
-  module _ (cost : Outputs → s.Meaning) (old : List (Option V)) where
+  -- cost gives the weight of a step by its outputs, and old the path weights before it by the states.
+  module _ (cost : Outputs → s.Meaning) (old : ℕ → Option s.Meaning) where
     unfoldable pub through : Bool → ℕ → Option s.Meaning
-    through odd k = behind (meant old (predecessor odd k)) (cost (outputs (cells_of (predecessor odd k)) (input (predecessor odd k) k)))
+    through odd k = behind (old (predecessor odd k)) (cost (outputs (cells_of (predecessor odd k)) (input (predecessor odd k) k)))
 
     pub record Settled (weight : Option s.Meaning) (odd : Bool) (k : ℕ) : Type 0 where
       pub is : weight ≡ through odd k
@@ -90,8 +113,8 @@ module _ {V : Type 0} (s : Scale V) where
       pub held : MatchOption w (Unit {0}) (λ v. (state_of (ends (origin survivors t k)) ≡ k) × (v ≡ path_weight (origin survivors t k)))
 
     -- After t steps each path weight is the lightest to its state.
-    abbrev pub Best : List ℕ → List (Option V) → ℕ → Type 0
-    Best survivors paths t = (k : ℕ) → k < 16 → Lightest survivors t k (meant paths k)
+    abbrev pub Best : List ℕ → (ℕ → Option s.Meaning) → ℕ → Type 0
+    Best survivors paths t = (k : ℕ) → k < 16 → Lightest survivors t k (paths k)
 
     -- The block that the survivors give, from state 0 back: a message with its tail, of weight w, and no message of that
     -- many bits weighs less.

@@ -5,29 +5,43 @@ ghost use Rattle.code.specs.Columns.{index_of};
 ghost use Rattle.code.specs.Places.{place_of};
 ghost use Rattle.code.specs.declared.Outputs.{Outputs as Step-out};
 ghost use Rattle.search.specs.Weights.{entry_sums, side};
-ghost use Rattle.search.specs.Paths.{ColumnPlaces, WithinBuffer, entries_cost, step_weight};
+ghost use Rattle.search.specs.Paths.{ColumnPlaces, WithinBuffer, costing, entries_cost, picked, step_weight};
 
-use crate::{Entry, StepEntries};
+use crate::{Entry, Quad, Sixteen, StepEntries};
 use block::Size;
-use code::{Order, Outputs};
+use code::Order;
 use std::array;
 use weighing::Weighing;
 
-impl<V: Copy> Entry<V> {
-    fn side(self, bit: bool) -> V
-        ensures { result ≡ side bit self }
-    {
-        if bit { self.one } else { self.zero }
+// What outputs 3 and 4 add behind a weight.
+fn sums_behind<W: Weighing>(
+    weight: W::Value,
+    v3: Entry<W::Value>,
+    v4: Entry<W::Value>,
+) -> Quad<W::Value>
+    ensures { (b c : Bool) → W.scale.mean (picked b c result) ≡ W.scale.plus (W.scale.plus (W.scale.mean weight) (W.scale.mean (side b v3))) (W.scale.mean (side c v4)) }
+{
+    let zero = W::sum(weight, v3.zero);
+    let one = W::sum(weight, v3.one);
+    Quad {
+        zero: W::sum(zero, v4.zero),
+        one: W::sum(zero, v4.one),
+        two: W::sum(one, v4.zero),
+        three: W::sum(one, v4.one),
     }
 }
 
-// What a step weighs if these are its outputs.
-pub(crate) fn cost_of<W: Weighing>(entries: StepEntries<W::Value>, outputs: Outputs) -> W::Value
-    ensures { W.scale.mean result ≡ entries_cost W.scale entries outputs }
+// What a step weighs by its outputs. What begins alike is summed once.
+fn step_costs<W: Weighing>(entries: StepEntries<W::Value>) -> Sixteen<W::Value>
+    ensures { (v : Step-out) → costing W.scale result v ≡ entries_cost W.scale entries v }
 {
-    let first = W::sum(entries.v1.side(outputs.v1), entries.v2.side(outputs.v2));
-    let second = W::sum(first, entries.v3.side(outputs.v3));
-    W::sum(second, entries.v4.side(outputs.v4))
+    let StepEntries { v1, v2, v3, v4 } = entries;
+    Quad {
+        zero: sums_behind::<W>(W::sum(v1.zero, v2.zero), v3, v4),
+        one: sums_behind::<W>(W::sum(v1.zero, v2.one), v3, v4),
+        two: sums_behind::<W>(W::sum(v1.one, v2.zero), v3, v4),
+        three: sums_behind::<W>(W::sum(v1.one, v2.one), v3, v4),
+    }
 }
 
 // The place of the first row of column `a`, in a block of `n` octets.
@@ -100,7 +114,7 @@ impl<'a, W: Weighing> Block<'a, W> {
 
     // The entries of the outputs of step `t`.
     #[tactic(auto, unfolding(crate::specs::Weights::part, code::specs::Places::place_of))]
-    pub(crate) fn entries_at(&self, t: usize) -> StepEntries<W::Value>
+    fn entries_at(&self, t: usize) -> StepEntries<W::Value>
         requires { t < 8 * self.now.n }
         ensures { (v : Step-out) → entries_cost W.scale result v ≡ step_weight W.scale self.now.order.now.columns self.now.n (entry_sums W.scale self.now.tally.now) t v }
     {
@@ -110,5 +124,13 @@ impl<'a, W: Weighing> Block<'a, W> {
             v3: self.entry_at(self.output_place(1, t)),
             v4: self.entry_at(self.output_place(2, t)),
         }
+    }
+
+    // What step `t` weighs by its outputs.
+    pub(crate) fn costs_at(&self, t: usize) -> Sixteen<W::Value>
+        requires { t < 8 * self.now.n }
+        ensures { (v : Step-out) → costing W.scale result v ≡ step_weight W.scale self.now.order.now.columns self.now.n (entry_sums W.scale self.now.tally.now) t v }
+    {
+        step_costs::<W>(self.entries_at(t))
     }
 }

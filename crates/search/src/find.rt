@@ -28,7 +28,7 @@ impl<W: Weighing> Block<'_, W> {
     {
         let (even, rest) = paths.split_first_chunk_mut().unwrap();
         let (odd, _) = rest.split_first_chunk_mut().unwrap();
-        // the message of zeros ends in state 0
+        // after four steps each state is reached
         self.forward(survivors, even, odd).unwrap()
     }
 }

@@ -2,9 +2,12 @@
 #![tactic(auto)]
 
 mod back;
+mod by_bits;
 mod costs;
+mod early;
 mod find;
 mod forward;
+mod stage;
 mod state;
 
 pub use find::find_nearest;
@@ -27,11 +30,32 @@ pub(crate) struct StepEntries<V> {
     v4: Entry<V>,
 }
 
-// The path weight that arrives at a state, and whether it came through the odd predecessor.
+// A value for each number of two bits.
 #[derive(Clone, Copy, Drop)]
-pub(crate) struct Arrival<V> {
-    weight: Option<V>,
+pub(crate) struct Quad<T> {
+    zero: T,
+    one: T,
+    two: T,
+    three: T,
+}
+
+// A value for each number of four bits: for each state, or for each row of outputs. It is no array, since an array of a type
+// parameter would ask each caller that it fits in memory.
+pub(crate) type Sixteen<T> = Quad<Quad<T>>;
+
+// The path weight that arrives at a state, and whether it came through the odd predecessor. The weight is an `Option` where a
+// state may be unreached.
+#[derive(Clone, Copy, Drop)]
+pub(crate) struct Arrival<T> {
+    weight: T,
     odd: bool,
+}
+
+// The path weights that are chosen for some states, and those states' bits of the word of survivors.
+#[derive(Clone, Copy, Drop)]
+pub(crate) struct Chosen<T> {
+    weights: T,
+    word: u16,
 }
 
 // Some steps back along the survivors: what was read of them, a bit or an octet, and the state before them.

@@ -1,9 +1,10 @@
 // A state of the register, and the steps that lead to it.
 ghost use Rattle.std.specs.Prelude.{◌≡◌, ◌<◌};
-ghost use Rattle.search.specs.Paths.{input, predecessor};
+ghost use Rattle.code.specs.Register.{cells_of, outputs, state_of};
+ghost use Rattle.search.specs.Paths.{cells, input, predecessor};
 
 use block::bit_of;
-use code::feedback;
+use code::{Outputs, feedback, step_from};
 
 // A state by its number.
 #[derive(Clone, Copy)]
@@ -18,6 +19,15 @@ impl State {
         ensures { result.number ≡ 0 }
     {
         State { number: 0 }
+    }
+
+    // The state of these cells.
+    pub(crate) fn of_cells(m1: bool, m2: bool, m3: bool, m4: bool) -> State
+        ensures { result.number ≡ state_of (cells m1 m2 m3 m4) }
+    {
+        State {
+            number: 8 * m1 as u8 + 4 * m2 as u8 + 2 * m3 as u8 + m4 as u8,
+        }
     }
 
     // The even or the odd predecessor.
@@ -36,5 +46,12 @@ impl State {
         ensures { result ≡ input from.number self.number }
     {
         bit_of(self.number as u32, 3) ^ feedback(from.number)
+    }
+
+    // What the step from a predecessor puts out.
+    pub(crate) fn outputs_from(self, from: State) -> Outputs
+        ensures { result ≡ outputs (cells_of from.number) (input from.number self.number) }
+    {
+        step_from(from.number, self.input_from(from)).outputs
     }
 }

@@ -1,8 +1,8 @@
 use Rattle.std.proofs.Common.{arith}
-use Rattle.search.specs.Paths.{entries_cost}
+use Rattle.search.specs.Paths.{costing, meant}
 use Rattle.search.proofs.Settling.{settled_more}
 use Rattle.search.proofs.Words.{longer_below}
-use Rattle.search.proofs.forward.Stage.settle.Goals as goal
+use Rattle.search.proofs.early.EarlyStage.settle.Goals as goal
 
 pub loop-number-preserved : goal.loop-number-preserved
 loop-number-preserved g c =
@@ -11,6 +11,6 @@ loop-number-preserved g c =
     let word = c.loop-number.word in
     let odd = c.arrive-arrival.result.odd in (
       longer_below word k odd c.loop-number-test.true c.loop-number.invariant.0,
-      settled_more s (entries_cost s c.args.self.now.entries) c.args.self.now.old.now c.loop-number.new word k odd _
+      settled_more s (costing s c.args.self.now.costs) (meant s c.args.self.now.old.now) c.loop-number.new word k odd _
           c.loop-number-test.true (omega arith) c.loop-number.invariant.0 c.loop-number.invariant.1 c.arrive-arrival.ensures,
     )
