@@ -1,3 +1,4 @@
 pub mod Carried
 pub mod Drained
+pub mod OnlyOne
 pub mod Owing

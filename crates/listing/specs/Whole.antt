@@ -1,10 +1,12 @@
 -- The theorem on whole listings. Assumes nothing.
 use Rattle.std.specs.Prelude.{◌≡◌, ℕ, Bool, true, false, List, map, Option}
 use Rattle.std.specs.Iterator.{Drains}
+use Rattle.std.specs.List.{AllZip}
 use Rattle.weighing.specs.Scales.{Scale}
 use Rattle.weighing.specs.declared.Weighing.{Ghosts}
 use Rattle.listing.specs.Captures.{is_of_another}
-use Rattle.listing.specs.Lines.{tells}
+use Rattle.listing.specs.Faults.{Says}
+use Rattle.listing.specs.Lines.{Told, a_decode, a_fault, tells, the_end}
 use Rattle.listing.specs.Listings.{IsListing}
 use Rattle.listing.specs.declared.ByLetter.{ByLetter}
 use Rattle.listing.specs.declared.ByLetter.TheVariants.{Lines as ByLines, OfAnother}
@@ -20,3 +22,16 @@ module _ {V A : Type 0} (W : Type 0) (g : Ghosts W V) (s : Scale V) (reads : ℕ
   ListsCapture (ByLines lines) =
       (is_of_another letter capture ≡ false)
       × ((told : List (Line V)) → Drains next lines told → IsListing s reads against room letter capture (map tells told))
+
+-- Two lines that tell the same; of two decodes, each may name another message of the one least weight.
+pub data Alike {V : Type 0} (s : Scale V) : Told V → Told V → Type 0 where
+  decodes_alike : (r : ℕ) (weight₁ weight₂ : V) (fits₁ fits₂ : Bool) (octets₁ octets₂ : List ℕ) → s.mean weight₁ ≡ s.mean weight₂
+      → Alike s (a_decode r weight₁ fits₁ octets₁) (a_decode r weight₂ fits₂ octets₂)
+  faults_alike : (r : ℕ) (fault : Says) → Alike s (a_fault r fault) (a_fault r fault)
+  ends_alike : (r : ℕ) → Alike s (the_end r) (the_end r)
+
+-- What a listing leaves open is only that choice: two listings of one capture are as long as one another, and alike line by line.
+abbrev pub OneListing : {V A : Type 0} → Scale V → (ℕ → Option A) → (A → Bool → V) → Type 0
+OneListing {V} s reads against =
+    (letter room : ℕ) (capture : List ℕ) (first second : List (Told V)) → IsListing s reads against room letter capture first → IsListing s reads against room letter capture second
+    → AllZip (Alike s) first second

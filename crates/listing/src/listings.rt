@@ -1,7 +1,7 @@
 // The entry call.
 ghost use Rattle.std.specs.Prelude.{◌≡◌, ◌≤◌, length};
 ghost use Rattle.listing.specs.Owed.{Begins};
-ghost use Rattle.listing.specs.Whole.{ListsCapture};
+ghost use Rattle.listing.specs.Whole.{ListsCapture, OneListing};
 
 use crate::{Acts, ByLetter, Layout, Lettered, Lines, Reader, Stage};
 use search::Entry;
@@ -43,7 +43,8 @@ pub fn list<'a, R: Lettered>(
     tally: &'a mut [Entry<R::Value>],
     paths: &'a mut [Option<R::Value>; 32],
 ) -> ByLetter<'a, R>
-    ensures { ListsCapture R R.Weighing R.Weighing.scale R.Reading.reads R.Reading.against R.LETTER (length tally.old) capture.now ⟦<Lines<'a, R> as Iterator>⟧.next_gives result }
+    ensures lists { ListsCapture R R.Weighing R.Weighing.scale R.Reading.reads R.Reading.against R.LETTER (length tally.old) capture.now ⟦<Lines<'a, R> as Iterator>⟧.next_gives result }
+    ensures one { OneListing R.Weighing.scale R.Reading.reads R.Reading.against }
 {
     let Some(stage) = first_stage(capture, R::LETTER) else {
         return ByLetter::OfAnother;
