@@ -4,6 +4,8 @@
 #[cfg(test)]
 mod hearing;
 #[cfg(test)]
+mod listed;
+#[cfg(test)]
 mod refused;
 
 #[cfg(test)]
