@@ -78,3 +78,21 @@ fn main(rt: HostRuntime) -> io::Result<()> {
         &mut [Entry { zero: 0, one: 0 }; PLACES],
     )
 }
+
+#[cfg(test)]
+mod tests {
+    use super::fill;
+    use std::test::Fail;
+
+    // What comes fills the buffer up to the end of either, and nothing is read behind it.
+    #[test]
+    fn fills(rt: HostRuntime) -> Result<(), Fail> {
+        let mut buffer = [9; 3];
+        assert_eq!(rt; fill(&mut &[1, 2][..], &mut buffer)?, 2);
+        assert_eq!(rt; buffer, [1, 2, 9]);
+        let mut input = &[4, 5, 6, 7][..];
+        assert_eq!(rt; fill(&mut input, &mut buffer)?, 3);
+        assert_eq!(rt; (buffer, input), ([4, 5, 6], &[7][..]));
+        Ok(())
+    }
+}
