@@ -25,7 +25,7 @@ use Rattle.nearest.proofs.Keeping.{block_is, by_the_book, run_kept}
 use Rattle.nearest.specs.Runs.{Run, called, opened as run_opened, takes, wipes}
 use Rattle.listing.specs.Carrying.{CarriesOut, Faults, Silent, Stands, Tells, TellsAct}
 use Rattle.listing.specs.Captures.{Asked, to_decode, to_open, to_take, to_wipe}
-use Rattle.listing.specs.Faults.{fault_case, says}
+use Rattle.listing.specs.Faults.{ActFault, is_open}
 use Rattle.listing.specs.Lines.{octets_of}
 use Rattle.listing.specs.Listings.{ActTells, InForce, block_of as force_block, act_checks, decoded, start_of}
 use Rattle.listing.specs.declared.Fault.{Fault}
@@ -114,7 +114,7 @@ module _ {V A : Type 0} (W : Type 0) (g : Ghosts W V) (s : Scale V) (reads : ℕ
   pub open_refused : (before after : Reader W V g) (at : Layout) (octets check : ℕ) (columns : List ℕ) (refusal : OpenRefusal) (fault : Fault)
       → after.sheet ≡ before.sheet → after.next_start ≡ before.next_start
       → OpenDoes s {W = W} {g = g} octets check columns before.tally.now after.tally.now (Err refusal)
-      → fault_case fault ≡ says at None (open_case refusal).number
+      → ActFault at (to_open octets check) None (open_case refusal).number fault
       → CarriesOut W g s reads against at (to_open octets check) Silent before after (Err fault)
   open_refused before after at octets check columns refusal fault sheet next does is = (
     ap length does.2,
@@ -127,13 +127,13 @@ module _ {V A : Type 0} (W : Type 0) (g : Ghosts W V) (s : Scale V) (reads : ℕ
   -- an act that needs a sheet, where none is in force
   pub no_sheet : {B : Type 0} (before after : Reader W V g) (at : Layout) (asked : Asked) (Told : Option InForce → B → Type 0)
       → after.sheet ≡ before.sheet → after.next_start ≡ before.next_start → after.tally.now ≡ before.tally.now
-      → act_checks s reads against (length before.tally.now) None asked ≡ if_refuse true 13 ∷ [] → before.sheet ≡ None
+      → act_checks s reads against (length before.tally.now) None asked ≡ if_refuse true 13 ∷ [] → is_open asked ≡ false → before.sheet ≡ None
       → CarriesOut W g s reads against at asked Told before after (Err (NoSheet at.map))
-  no_sheet {B} before after at asked Told sheet next tally tests none = (ap length tally, told)
+  no_sheet {B} before after at asked Told sheet next tally tests needs none = (ap length tally, told)
     where
       told : (force : Option InForce) → Stands W g s reads against before force
           → Faults W g s reads against at (length before.tally.now) force asked (NoSheet at.map) × Stands W g s reads against after force
-      told None stands = (record { number = 13; refuses = ap first_refusal tests; is = refl }, sheet ∙ none)
+      told None stands = (record { number = 13; refuses = ap first_refusal tests; is = record { says_so = refl; carries = needs } }, sheet ∙ none)
       told (Some force) (own, holds) = absurd (none-some own (sym none ∙ holds.sheet_is))
 
   -- An act on the sheet in force: what holds where the reader's sheet is known to be this one.
@@ -180,7 +180,7 @@ module _ {V A : Type 0} (W : Type 0) (g : Ghosts W V) (s : Scale V) (reads : ℕ
   pub take_refused : (before after : Reader W V g) (at : Layout) (start : Option ℕ) (begin : ℕ) (symbols : List ℕ) (refusal : TakeRefusal) (fault : Fault) (sheet sheet' : Sheet W V g)
       → before.sheet ≡ Some sheet → after.sheet ≡ Some sheet' → begin ≡ unwrap_or start before.next_start → after.next_start ≡ before.next_start
       → TakeDoes s reads against sheet sheet' before.tally.now after.tally.now begin symbols (Err refusal)
-      → fault_case fault ≡ says at (unlawful reads symbols) (take_case (unlawful reads symbols) refusal).number
+      → ActFault at (to_take start symbols) (unlawful reads symbols) (take_case (unlawful reads symbols) refusal).number fault
       → CarriesOut W g s reads against at (to_take start symbols) Silent before after (Err fault)
   take_refused before after at start begin symbols refusal fault sheet sheet' is is' from next does fault_is = (
     ap length does.2.1,

@@ -1,13 +1,12 @@
 -- Two listings of one capture are alike. Assumes nothing.
-use Rattle.std.proofs.Common.{◌≡◌, ℕ, suc, ◌+◌, ◌<◌, ◌≤◌, Bool, true, false, List, [], ◌∷◌, ◌++◌, length, Some, None, Option, MatchBool, nat_lt, refl, sym, ap, ◌∙◌, subst, arith}
+use Rattle.std.proofs.Common.{◌≡◌, ℕ, suc, ◌<◌, ◌≤◌, Bool, true, false, List, [], ◌∷◌, ◌++◌, length, Some, None, Option, MatchBool, nat_lt, refl, sym, ap, ◌∙◌, subst, arith}
 use Rattle.std.specs.List.{AllZip}
 use Rattle.std.proofs.lemmas.Option.{none-some, same_Some}
-use Rattle.block.specs.Refusals.{first_refusal}
 use Rattle.weighing.specs.Scales.{Scale}
-use Rattle.listing.specs.Captures.{Asked, acts, is_letter, layout, most_octets}
-use Rattle.listing.specs.Faults.{Says, fault_case, says}
-use Rattle.listing.specs.Lines.{Told, a_decode, a_fault, the_end}
-use Rattle.listing.specs.Listings.{ActTells, InForce, IsListing, Listed, TellsNearest, act_checks, decoded, ended, first_unlawful, performed, quiet_open, quiet_take, quiet_wipe, refused, stopped, whole}
+use Rattle.listing.specs.Captures.{Asked, is_letter, layout, most_octets}
+use Rattle.listing.specs.Faults.{fault_says, record_fault, says}
+use Rattle.listing.specs.Lines.{Told, a_fault, the_end}
+use Rattle.listing.specs.Listings.{ActTells, InForce, RecordTells, RecordsTell, TellsNearest, decoded, ended, no_more, performed, quiet_open, quiet_take, quiet_wipe, read, refused, stopped}
 use Rattle.listing.specs.declared.Fault.TheVariants.{Letter, TooLong}
 use Rattle.listing.specs.declared.Layout.{Layout}
 use Rattle.listing.specs.Whole.{Alike, OneListing, decodes_alike, ends_alike, faults_alike}
@@ -29,24 +28,35 @@ module _ {V A : Type 0} (s : Scale V) (reads : ℕ → Option A) (against : A �
   acts_alike {r} more₁ more₂ (decoded {sheet} w₁ f₁ o₁ one) (decoded w₂ f₂ o₂ two) more =
       (decodes_alike r w₁ w₂ f₁ f₂ o₁ o₂ (least_is_one sheet w₁ w₂ f₁ f₂ o₁ o₂ one two), more)
 
-  -- one number, one fault
-  same_fault : (r : ℕ) (at : Layout) (first : Option ℕ) {n n' : ℕ} → n ≡ n' → Alike s (a_fault r (says at first n)) (a_fault r (says at first n'))
-  same_fault r at first {n} same = subst (λ m. Alike s (a_fault r (says at first n)) (a_fault r (says at first m))) same (faults_alike r (says at first n))
+  joined : (first₁ first₂ rest₁ rest₂ : List (Told V)) → Same first₁ first₂ → Same rest₁ rest₂ → Same (first₁ ++ rest₁) (first₂ ++ rest₂)
+  joined [] [] rest₁ rest₂ same more = more
+  joined [] (y ∷ ys) rest₁ rest₂ same more = absurd same
+  joined (x ∷ xs) [] rest₁ rest₂ same more = absurd same
+  joined (x ∷ xs) (y ∷ ys) rest₁ rest₂ (one, same) more = (one, joined xs ys rest₁ rest₂ same more)
 
-  module _ (room : ℕ) (capture : List ℕ) where
-    alike : {r map next : ℕ} {force : Option InForce} {acts-left : List Asked} {first second : List (Told V)}
-        → Listed s reads against room capture r map next force acts-left first → Listed s reads against room capture r map next force acts-left second → Same first second
-    alike (performed passes one rest₁) (performed passes' two rest₂) = acts_alike _ _ one two (alike rest₁ rest₂)
-    alike (performed passes one rest₁) (refused {number = n} refuses rest₂) = absurd (none-some n (sym passes ∙ refuses))
-    alike (refused {number = n} refuses rest₁) (performed passes two rest₂) = absurd (none-some n (sym passes ∙ refuses))
-    alike (refused {r} {map} {number = n} {act = act} refuses rest₁) (refused {number = n'} refuses' rest₂) = (same_fault r (layout capture map) (first_unlawful reads act) (same_Some n n' (sym refuses ∙ refuses')), alike rest₁ rest₂)
-    alike (whole more passes rest₁) (whole more' passes' rest₂) = alike rest₁ rest₂
-    alike (whole more passes rest₁) (stopped {number = n} more' refuses) = absurd (none-some n (sym passes ∙ refuses))
-    alike (whole more passes rest₁) (ended done) = absurd (omega (arith, more, done))
-    alike (stopped {number = n} more refuses) (whole more' passes rest₂) = absurd (none-some n (sym passes ∙ refuses))
-    alike (stopped {r} {next = next} {number = n} more refuses) (stopped {number = n'} more' refuses') = (same_fault (suc r) (layout capture next) None (same_Some n n' (sym refuses ∙ refuses')), (ends_alike r, tt))
+  module _ (room : ℕ) where
+    -- the acts of a record tell alike, and leave the same in force
+    record_alike : {r : ℕ} {at : Layout} {force behind₁ behind₂ : Option InForce} {acts : List Asked} {first second : List (Told V)}
+        → RecordTells s reads against room r at force acts behind₁ first → RecordTells s reads against room r at force acts behind₂ second → (behind₂ ≡ behind₁) × Same first second
+    record_alike no_more no_more = (refl, tt)
+    record_alike (performed passes one rest₁) (performed passes' two rest₂) = let more = record_alike rest₁ rest₂ in (more.0, acts_alike _ _ one two more.1)
+    record_alike (performed passes one rest₁) (refused {number = n} refuses is) = absurd (none-some n (sym passes ∙ refuses))
+    record_alike (refused {number = n} refuses is) (performed passes two rest₂) = absurd (none-some n (sym passes ∙ refuses))
+    record_alike {r} {at} (refused {number = n} {fault} refuses is) (refused {number = n'} {fault = fault'} refuses' is') =
+        (refl, (faults_alike r fault fault' (is.says_so ∙ ap (says at _) (same_Some n n' (sym refuses ∙ refuses')) ∙ sym is'.says_so), tt))
+
+    alike : {capture : List ℕ} {r place : ℕ} {force : Option InForce} {first second : List (Told V)}
+        → RecordsTell s reads against room capture r place force first → RecordsTell s reads against room capture r place force second → Same first second
+    alike {capture} (read {r} {place} {lines = lines₁} {rest = rest₁} more passes one others₁) (read {lines = lines₂} {rest = rest₂} more' passes' two others₂) =
+        let here = record_alike one two in
+        joined lines₁ lines₂ rest₁ rest₂ here.1 (alike others₁ (subst (λ f. RecordsTell s reads against room capture (suc r) (layout capture place).end f rest₂) here.0 others₂))
+    alike (read more passes one others) (stopped {number = n} more' refuses) = absurd (none-some n (sym passes ∙ refuses))
+    alike (read more passes one others) (ended done) = absurd (omega (arith, more, done))
+    alike (stopped {number = n} more refuses) (read more' passes two others) = absurd (none-some n (sym passes ∙ refuses))
+    alike (stopped {r} {place} {number = n} more refuses) (stopped {number = n'} more' refuses') =
+        (faults_alike (suc r) _ _ (ap (λ m. fault_says (record_fault place m)) (same_Some n n' (sym refuses ∙ refuses'))), (ends_alike r, tt))
     alike (stopped more refuses) (ended done) = absurd (omega (arith, more, done))
-    alike (ended done) (whole more passes rest₂) = absurd (omega (arith, more, done))
+    alike (ended done) (read more passes two others) = absurd (omega (arith, more, done))
     alike (ended done) (stopped more refuses) = absurd (omega (arith, more, done))
     alike (ended {r} done) (ended done') = (ends_alike r, tt)
 
@@ -61,5 +71,5 @@ module _ {V A : Type 0} (s : Scale V) (reads : ℕ → Option A) (against : A �
 
 pub one_listing : {V A : Type 0} (s : Scale V) (reads : ℕ → Option A) (against : A → Bool → V) → OneListing s reads against
 one_listing s reads against letter room capture first second a b =
-    one_told s reads against (nat_lt most_octets (length capture)) (is_letter letter capture) _ _ (λ x y p q. alike s reads against room capture p q)
-    (faults_alike 0 (fault_case TooLong), tt) (faults_alike 0 (fault_case Letter), (ends_alike 0, tt)) first second a b
+    one_told s reads against (nat_lt most_octets (length capture)) (is_letter letter capture) _ _ (λ x y p q. alike s reads against room p q)
+    (faults_alike 0 TooLong TooLong refl, tt) (faults_alike 0 Letter Letter refl, (ends_alike 0, tt)) first second a b

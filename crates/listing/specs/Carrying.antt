@@ -6,14 +6,20 @@ use Rattle.weighing.specs.Scales.{Scale}
 use Rattle.weighing.specs.declared.Weighing.{Ghosts}
 use Rattle.sheet.specs.declared.Sheet.{Sheet}
 use Rattle.nearest.specs.Runs.{Run}
-use Rattle.listing.specs.Captures.{Asked}
-use Rattle.listing.specs.Faults.{fault_case, says}
+use Rattle.listing.specs.Captures.{Asked, layout, record_checks}
+use Rattle.listing.specs.Faults.{ActFault, fault_says, record_fault}
 use Rattle.listing.specs.Lines.{Told, a_decode, octets_of}
 use Rattle.listing.specs.Listings.{ActTells, InForce, TellsNearest, act_checks, after_act, first_unlawful}
 use Rattle.listing.specs.declared.Fault.{Fault}
 use Rattle.listing.specs.declared.Layout.{Layout}
 use Rattle.listing.specs.declared.Named.{Named}
 use Rattle.listing.specs.declared.Reader.{Reader}
+
+-- Reading a record: it passes its tests and has its layout, or the first test that fails gives the fault.
+abbrev pub Reads : List ℕ → ℕ → Result Layout Fault → Type 0
+Reads capture place r =
+    MatchResult r (λ at. (first_refusal (record_checks capture place) ≡ None) × (at ≡ layout capture place))
+    (λ fault. (first_refusal (record_checks capture place) ≡ Some (fault_says fault).number) × (fault ≡ record_fault place (fault_says fault).number))
 
 -- an act that answers nothing
 abbrev pub Silent : Option InForce → Unit {0} → Type 0
@@ -48,7 +54,7 @@ module _ {V A : Type 0} (W : Type 0) (g : Ghosts W V) (s : Scale V) (reads : ℕ
   pub record Faults (at : Layout) (room : ℕ) (force : Option InForce) (asked : Asked) (fault : Fault) : Type 0 where
     pub number : ℕ
     pub refuses : first_refusal (act_checks s reads against room force asked) ≡ Some number
-    pub is : fault_case fault ≡ says at (first_unlawful reads asked) number
+    pub is : ActFault at asked (first_unlawful reads asked) number fault
 
   -- What carrying out an act does: it is performed just where its tests pass, and what is in force then is the rules'; a refused
   -- one changes nothing. Told is what holds of the answer.

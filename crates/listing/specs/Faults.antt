@@ -1,6 +1,6 @@
 -- What each fault says: its layer, its place and its number. Assumes nothing.
-use Rattle.std.specs.Prelude.{ℕ, ◌+◌, cond, ◌||◌, Some, None, Option, ◌==◌, nat_le}
-use Rattle.listing.specs.Captures.{most_octets}
+use Rattle.std.specs.Prelude.{◌≡◌, ℕ, ◌+◌, Bool, true, false, cond, ◌||◌, Some, None, Option, ◌==◌}
+use Rattle.listing.specs.Captures.{Asked, most_octets, to_decode, to_open, to_take, to_wipe}
 use Rattle.listing.specs.declared.Fault.{Fault}
 use Rattle.listing.specs.declared.Fault.TheVariants.{TooLong, Letter, Unknown, CutShort, NoSheet, Open, Take}
 use Rattle.listing.specs.declared.Layer.{Layer}
@@ -16,7 +16,7 @@ pub record Says : Type 0 where
 
 -- 11, 12 and 13 are the listing's own; 9 comes from the reading, and all others from the sheet
 abbrev pub layer_of : ℕ → Layer
-layer_of number = cond (number == 9) Reading (cond (nat_le 11 number) Listing Sheet)
+layer_of number = cond (number == 9) Reading (cond (number == 11 || (number == 12 || number == 13)) Listing Sheet)
 
 -- where the field begins that a refusal is about; `first` is the index of the first symbol that is unlawful
 abbrev pub place_of : Layout → Option ℕ → ℕ → ℕ
@@ -32,11 +32,43 @@ abbrev pub says : Layout → Option ℕ → ℕ → Says
 says at first number = record { layer = layer_of number; place = place_of at first number; number = number }
 
 -- each case of a fault, and what it says
-abbrev pub fault_case : Fault → Says
-fault_case TooLong = record { layer = Listing; place = most_octets; number = 11 }
-fault_case Letter = record { layer = Listing; place = 0; number = 12 }
-fault_case (Unknown place) = record { layer = Listing; place = place; number = 12 }
-fault_case (CutShort place) = record { layer = Listing; place = place; number = 11 }
-fault_case (NoSheet place) = record { layer = Listing; place = place; number = 13 }
-fault_case (Open place refusal) = record { layer = Sheet; place = place; number = (open_case refusal).number }
-fault_case (Take place refusal) = record { layer = layer_of (take_case None refusal).number; place = place; number = (take_case None refusal).number }
+abbrev pub fault_says : Fault → Says
+fault_says TooLong = record { layer = Listing; place = most_octets; number = 11 }
+fault_says Letter = record { layer = Listing; place = 0; number = 12 }
+fault_says (Unknown place) = record { layer = Listing; place = place; number = 12 }
+fault_says (CutShort place) = record { layer = Listing; place = place; number = 11 }
+fault_says (NoSheet place) = record { layer = Listing; place = place; number = 13 }
+fault_says (Open place refusal) = record { layer = Sheet; place = place; number = (open_case refusal).number }
+fault_says (Take place refusal) = record { layer = layer_of (take_case None refusal).number; place = place; number = (take_case None refusal).number }
+
+-- the fault of a record that is not read: 12 for its map, or 11 for its end
+abbrev pub record_fault : ℕ → ℕ → Fault
+record_fault place number = cond (number == 12) (Unknown place) (CutShort place)
+
+abbrev pub is_open : Asked → Bool
+is_open (to_open octets check) = true
+is_open (to_take start symbols) = false
+is_open to_decode = false
+is_open to_wipe = false
+
+abbrev pub is_take : Asked → Bool
+is_take (to_open octets check) = false
+is_take (to_take start symbols) = true
+is_take to_decode = false
+is_take to_wipe = false
+
+-- What the case of a refused act's fault may be, and what it carries: a refused opening or take is its own act's, and carries what
+-- the sheet's refusal may carry; any act but an opening may lack a sheet.
+abbrev pub fault_carries : Asked → Option ℕ → Fault → Type 0
+fault_carries act first (Open place refusal) = is_open act ≡ true
+fault_carries act first (Take place refusal) = (is_take act ≡ true) × (take_case first refusal).carries
+fault_carries act first (NoSheet place) = is_open act ≡ false
+fault_carries act first TooLong = ⊥
+fault_carries act first Letter = ⊥
+fault_carries act first (Unknown place) = ⊥
+fault_carries act first (CutShort place) = ⊥
+
+-- the fault of an act that is refused by a number, in a record with this layout
+pub record ActFault (at : Layout) (act : Asked) (first : Option ℕ) (number : ℕ) (fault : Fault) : Type 0 where
+  pub says_so : fault_says fault ≡ says at first number
+  pub carries : fault_carries act first fault

@@ -1,7 +1,8 @@
 -- The lines of a listing, and their text. Assumes nothing.
 use Rattle.std.specs.Prelude.{ℕ, ◌/◌, ◌%◌, Bool, false, cond, List, [], ◌∷◌, ◌++◌, take, codes, decimal, flat_map, Some, Option}
 use Rattle.std.specs.Fmt.{digit_glyph, ◌++?◌}
-use Rattle.listing.specs.Faults.{Says, fault_case}
+use Rattle.listing.specs.Faults.{fault_says}
+use Rattle.listing.specs.declared.Fault.{Fault}
 use Rattle.listing.specs.declared.Layer.{Layer}
 use Rattle.listing.specs.declared.Layer.TheVariants.{Listing, Sheet, Reading}
 use Rattle.listing.specs.declared.Line.{Line}
@@ -9,10 +10,10 @@ use Rattle.listing.specs.declared.Line.TheVariants.{Decoded, Faulty, End}
 use Rattle.listing.specs.declared.Message.{Message}
 
 -- what a line tells: a decode with the record, the weight, whether the check fits, and the octets of the message named; a fault
--- with the record and what it says; or the end, with the number of records read whole
+-- with the record; or the end, with the number of records read whole
 pub data Told (V : Type 0) : Type 0 where
   a_decode : (record-number : ℕ) (weight : V) (fits : Bool) (octets : List ℕ) → Told V
-  a_fault : (record-number : ℕ) (fault : Says) → Told V
+  a_fault : (record-number : ℕ) (fault : Fault) → Told V
   the_end : (records : ℕ) → Told V
 
 abbrev pub octets_of : Message → List ℕ
@@ -21,7 +22,7 @@ octets_of message = take message.octets message.block
 -- each case of a line, and what it tells
 abbrev pub tells : {V : Type 0} → Line V → Told V
 tells (Decoded record-number named) = a_decode record-number named.weight named.check_fits (octets_of named.message)
-tells (Faulty record-number fault) = a_fault record-number (fault_case fault)
+tells (Faulty record-number fault) = a_fault record-number fault
 tells (End records) = the_end records
 
 -- an octet as two digits of lower-case hex
@@ -41,5 +42,5 @@ abbrev pub text : {V : Type 0} → (V → Option (List ℕ)) → Told V → Opti
 text shown (a_decode r weight fits octets) =
     Some (codes "D " ++ decimal r ++ codes " ") ++? shown weight ++? Some (cond fits (codes " Y ") (codes " N ") ++ hex octets)
 text shown (a_fault r fault) =
-    Some (codes "F " ++ decimal r ++ codes " " ++ decimal fault.place ++ codes " " ++ layer_letter fault.layer ++ codes " " ++ decimal fault.number)
+    Some (codes "F " ++ decimal r ++ codes " " ++ decimal (fault_says fault).place ++ codes " " ++ layer_letter (fault_says fault).layer ++ codes " " ++ decimal (fault_says fault).number)
 text shown (the_end r) = Some (codes "E " ++ decimal r)

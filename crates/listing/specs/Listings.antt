@@ -12,9 +12,11 @@ use Rattle.search.specs.Weights.{Nearest, weight}
 use Rattle.sheet.specs.Books.{Book, book_sums, empty, noted, unlawful}
 use Rattle.sheet.specs.Calls.{open_checks, take_checks}
 use Rattle.listing.specs.Captures.{Asked, acts, is_letter, layout, most_octets, record_checks, to_decode, to_open, to_take, to_wipe}
-use Rattle.listing.specs.Faults.{fault_case, says}
+use Rattle.listing.specs.Faults.{ActFault, record_fault}
 use Rattle.listing.specs.Lines.{Told, a_decode, a_fault, the_end}
+use Rattle.listing.specs.declared.Fault.{Fault}
 use Rattle.listing.specs.declared.Fault.TheVariants.{Letter, TooLong}
+use Rattle.listing.specs.declared.Layout.{Layout}
 
 -- The sheet in force: T and L that it was opened for, its book, and the octet at which a take with no start field begins.
 pub record InForce : Type 0 where
@@ -96,33 +98,31 @@ module _ {V A : Type 0} (s : Scale V) (reads : ℕ → Option A) (against : A �
     act_checks None to_decode = if_refuse true 13 ∷ []
     act_checks None to_wipe = if_refuse true 13 ∷ []
 
-    -- The lines of a capture from some point on, at which r records were read whole: the last of them has its map at `map` and
-    -- these acts still to run, the next has its map at `next`, and this sheet is in force.
-    pub data Listed (capture : List ℕ) : (r map next : ℕ) → Option InForce → List Asked → List (Told V) → Type 0 where
-      -- an act passes its tests and is performed
-      performed : {r map next : ℕ} {force : Option InForce} {act : Asked} {more : List Asked} {lines rest : List (Told V)}
+    -- What record r tells, whose fields are laid out so: from what is in force before it to what is in force behind it, its acts run
+    -- one after another. An act that is refused changes nothing, and those behind it are skipped.
+    pub data RecordTells (r : ℕ) (at : Layout) : Option InForce → List Asked → Option InForce → List (Told V) → Type 0 where
+      no_more : {force : Option InForce} → RecordTells r at force [] force []
+      performed : {force behind : Option InForce} {act : Asked} {more : List Asked} {lines rest : List (Told V)}
           → first_refusal (act_checks force act) ≡ None → ActTells r force act lines
-          → Listed capture r map next (after_act force act) more rest → Listed capture r map next force (act ∷ more) (lines ++ rest)
-      -- an act is refused: nothing changes, and the record's other acts are skipped
-      refused : {r map next number : ℕ} {force : Option InForce} {act : Asked} {more : List Asked} {rest : List (Told V)}
-          → first_refusal (act_checks force act) ≡ Some number
-          → Listed capture r map next force [] rest
-          → Listed capture r map next force (act ∷ more) (a_fault r (says (layout capture map) (first_unlawful reads act) number) ∷ rest)
-      -- a record follows that is read whole: its acts are carried out next
-      whole : {r map next : ℕ} {force : Option InForce} {rest : List (Told V)}
-          → next < length capture → first_refusal (record_checks capture next) ≡ None
-          → Listed capture (suc r) next (layout capture next).end force (acts capture next) rest
-          → Listed capture r map next force [] rest
-      -- a record follows that is not read: reading stops
-      stopped : {r map next number : ℕ} {force : Option InForce} → next < length capture → first_refusal (record_checks capture next) ≡ Some number
-          → Listed capture r map next force [] (a_fault (suc r) (says (layout capture next) None number) ∷ the_end r ∷ [])
-      -- the capture is at its end
-      ended : {r map next : ℕ} {force : Option InForce} → length capture ≤ next → Listed capture r map next force [] (the_end r ∷ [])
+          → RecordTells r at (after_act force act) more behind rest → RecordTells r at force (act ∷ more) behind (lines ++ rest)
+      refused : {force : Option InForce} {act : Asked} {more : List Asked} {number : ℕ} {fault : Fault}
+          → first_refusal (act_checks force act) ≡ Some number → ActFault at act (first_unlawful reads act) number fault
+          → RecordTells r at force (act ∷ more) force (a_fault r fault ∷ [])
+
+    -- What is told from a place on, where r records were read whole before it and this is in force: a record that passes its tests
+    -- is read and counts; at one that does not, reading stops; and at the capture's end.
+    pub data RecordsTell (capture : List ℕ) : (r place : ℕ) → Option InForce → List (Told V) → Type 0 where
+      read : {r place : ℕ} {force behind : Option InForce} {lines rest : List (Told V)}
+          → place < length capture → first_refusal (record_checks capture place) ≡ None
+          → RecordTells (suc r) (layout capture place) force (acts capture place) behind lines
+          → RecordsTell capture (suc r) (layout capture place).end behind rest → RecordsTell capture r place force (lines ++ rest)
+      stopped : {r place number : ℕ} {force : Option InForce} → place < length capture → first_refusal (record_checks capture place) ≡ Some number
+          → RecordsTell capture r place force (a_fault (suc r) (record_fault place number) ∷ the_end r ∷ [])
+      ended : {r place : ℕ} {force : Option InForce} → length capture ≤ place → RecordsTell capture r place force (the_end r ∷ [])
 
     -- A whole listing, by the reading with this letter: one line where the capture is too long; else the letter must be known, and
     -- the records follow it, with no sheet in force at first.
     abbrev pub IsListing : ℕ → List ℕ → List (Told V) → Type 0
     IsListing letter capture lines =
-        MatchBool (nat_lt most_octets (length capture)) (lines ≡ a_fault 0 (fault_case TooLong) ∷ [])
-        (MatchBool (is_letter letter capture) (Listed capture 0 0 1 None [] lines)
-        (lines ≡ a_fault 0 (fault_case Letter) ∷ the_end 0 ∷ []))
+        MatchBool (nat_lt most_octets (length capture)) (lines ≡ a_fault 0 TooLong ∷ [])
+        (MatchBool (is_letter letter capture) (RecordsTell capture 0 1 None lines) (lines ≡ a_fault 0 Letter ∷ the_end 0 ∷ []))

@@ -1,19 +1,18 @@
--- What a listing still owes, step by step: nothing here is part of what the library promises. Assumes nothing.
-use Rattle.std.specs.Prelude.{◌≡◌, ℕ, ◌+◌, ◌-◌, ◌*◌, Bool, true, false, cond, List, [], ◌∷◌, length, Some, None, Option, MatchOption, nat_lt}
+-- What a listing still owes, step by step. `Gives` is what `next` promises. Assumes nothing.
+use Rattle.std.specs.Prelude.{◌≡◌, ℕ, ◌+◌, ◌-◌, ◌*◌, Bool, true, false, cond, List, [], ◌∷◌, ◌++◌, length, Some, None, Option, MatchOption, nat_lt}
 use Rattle.weighing.specs.Scales.{Scale}
 use Rattle.weighing.specs.declared.Weighing.{Ghosts}
-use Rattle.listing.specs.Captures.{Asked, is_letter, is_of_another, layout, left, most_octets}
+use Rattle.listing.specs.Captures.{Asked, is_letter, is_of_another, left, most_octets}
 use Rattle.listing.specs.Carrying.{Stands}
-use Rattle.listing.specs.Faults.{fault_case}
 use Rattle.listing.specs.Lines.{Told, a_fault, tells, the_end}
-use Rattle.listing.specs.Listings.{InForce, Listed}
+use Rattle.listing.specs.Listings.{InForce, RecordTells, RecordsTell}
 use Rattle.listing.specs.declared.Fault.TheVariants.{Letter, TooLong as too_long}
 use Rattle.listing.specs.declared.Line.{Line}
 use Rattle.listing.specs.declared.Lines.{Lines}
 use Rattle.listing.specs.declared.Stage.{Stage}
 use Rattle.listing.specs.declared.Stage.TheVariants.{TooLong, NoLetter, Reading, Stopped, Ended}
 
--- more steps than are left, by the stage and by how many steps the records may still take
+-- at least as many steps as are left, by the stage and by how many steps the records may still take
 abbrev pub steps_left : Stage → ℕ → ℕ
 steps_left TooLong more = 1
 steps_left NoLetter more = 2
@@ -38,14 +37,18 @@ told_first None more = more
 told_first (Some line) more = tells line ∷ more
 
 module _ {V A : Type 0} (W : Type 0) (g : Ghosts W V) (s : Scale V) (reads : ℕ → Option A) (against : A → Bool → V) where
-  -- the lines of the records that are still to come, where these acts come first
-  abbrev pub Records : Lines W V g → Option InForce → List Asked → List (Told V) → Type 0
-  Records lines force acts told =
-      Listed s reads against (length lines.reader.tally.now) lines.capture.now lines.records lines.at.map lines.at.end force acts told
+  -- what is told of the record that was read last, where these of its acts are still to run, and of the records behind it
+  pub record Records (lines : Lines W V g) (force : Option InForce) (acts : List Asked) (told : List (Told V)) : Type 0 where
+    pub behind : Option InForce
+    pub first : List (Told V)
+    pub rest : List (Told V)
+    pub record_tells : RecordTells s reads against (length lines.reader.tally.now) lines.records lines.at force acts behind first
+    pub others_tell : RecordsTell s reads against (length lines.reader.tally.now) lines.capture.now lines.records lines.at.end behind rest
+    pub all : told ≡ first ++ rest
 
   abbrev pub OwesAt : Stage → Lines W V g → Option InForce → List (Told V) → Type 0
-  OwesAt TooLong lines force told = told ≡ a_fault 0 (fault_case too_long) ∷ []
-  OwesAt NoLetter lines force told = told ≡ a_fault 0 (fault_case Letter) ∷ the_end lines.records ∷ []
+  OwesAt TooLong lines force told = told ≡ a_fault 0 too_long ∷ []
+  OwesAt NoLetter lines force told = told ≡ a_fault 0 Letter ∷ the_end lines.records ∷ []
   OwesAt Reading lines force told = Records lines force (left lines.acts) told
   OwesAt Stopped lines force told = told ≡ the_end lines.records ∷ []
   OwesAt Ended lines force told = told ≡ []
@@ -54,28 +57,22 @@ module _ {V A : Type 0} (W : Type 0) (g : Ghosts W V) (s : Scale V) (reads : ℕ
   abbrev pub Owes : Lines W V g → Option InForce → List (Told V) → Type 0
   Owes lines force told = OwesAt lines.stage lines force told
 
-  -- the reader stands, and where acts are left, the layout is their record's
-  pub record Ready (lines : Lines W V g) (force : Option InForce) : Type 0 where
-    pub stands : Stands W g s reads against lines.reader force
-    pub placed : (act : Asked) (more : List Asked) → left lines.acts ≡ act ∷ more → lines.at ≡ layout lines.capture.now lines.at.map
-
   -- A step from a point at which `before` was owed: either it tells a line, or none, and the others are still owed.
   pub record Steps (before : List (Told V) → Type 0) (r : Option (Line V)) (after : Lines W V g) : Type 0 where
     pub force : Option InForce
-    pub ready : Ready after force
+    pub stands : Stands W g s reads against after.reader force
     pub owes : (told : List (Told V)) → Owes after force told → before (told_first r told)
 
   -- a step from a listing as it stands
   abbrev pub GoesOn : Lines W V g → Lines W V g → Option (Line V) → Type 0
-  GoesOn before after r = (force : Option InForce) → Ready before force → Steps (Owes before force) r after
+  GoesOn before after r = (force : Option InForce) → Stands W g s reads against before.reader force → Steps (Owes before force) r after
 
   -- a step that carries out an act, which stood before those that are left
   abbrev pub CarriesOn : Asked → Lines W V g → Lines W V g → Option (Line V) → Type 0
   CarriesOn asked before after r =
-      (force : Option InForce) → Stands W g s reads against before.reader force → before.at ≡ layout before.capture.now before.at.map
-      → Steps (Records before force (asked ∷ left before.acts)) r after
+      (force : Option InForce) → Stands W g s reads against before.reader force → Steps (Records before force (asked ∷ left before.acts)) r after
 
-  -- what `next` gives: a line, with which the listing goes on, or none where none is owed
+  -- What `next` gives: a line, with which the listing goes on; or none where none is owed, and then none is owed any more.
   abbrev pub Gives : Lines W V g → Option (Line V) → Lines W V g → Type 0
   Gives before r after =
-      (force : Option InForce) → Ready before force → MatchOption r (Owes before force []) (λ line. Steps (Owes before force) (Some line) after)
+      (force : Option InForce) → Stands W g s reads against before.reader force → MatchOption r (Owes before force [] × (after.stage ≡ Ended)) (λ line. Steps (Owes before force) (Some line) after)

@@ -5,11 +5,12 @@ use Rattle.std.specs.List.{AllZip}
 use Rattle.weighing.specs.Scales.{Scale}
 use Rattle.weighing.specs.declared.Weighing.{Ghosts}
 use Rattle.listing.specs.Captures.{is_of_another}
-use Rattle.listing.specs.Faults.{Says}
+use Rattle.listing.specs.Faults.{fault_says}
 use Rattle.listing.specs.Lines.{Told, a_decode, a_fault, tells, the_end}
 use Rattle.listing.specs.Listings.{IsListing}
 use Rattle.listing.specs.declared.ByLetter.{ByLetter}
 use Rattle.listing.specs.declared.ByLetter.TheVariants.{Lines as ByLines, OfAnother}
+use Rattle.listing.specs.declared.Fault.{Fault}
 use Rattle.listing.specs.declared.Line.{Line}
 use Rattle.listing.specs.declared.Lines.{Lines}
 
@@ -27,7 +28,7 @@ module _ {V A : Type 0} (W : Type 0) (g : Ghosts W V) (s : Scale V) (reads : ℕ
 pub data Alike {V : Type 0} (s : Scale V) : Told V → Told V → Type 0 where
   decodes_alike : (r : ℕ) (weight₁ weight₂ : V) (fits₁ fits₂ : Bool) (octets₁ octets₂ : List ℕ) → s.mean weight₁ ≡ s.mean weight₂
       → Alike s (a_decode r weight₁ fits₁ octets₁) (a_decode r weight₂ fits₂ octets₂)
-  faults_alike : (r : ℕ) (fault : Says) → Alike s (a_fault r fault) (a_fault r fault)
+  faults_alike : (r : ℕ) (fault₁ fault₂ : Fault) → fault_says fault₁ ≡ fault_says fault₂ → Alike s (a_fault r fault₁) (a_fault r fault₂)
   ends_alike : (r : ℕ) → Alike s (the_end r) (the_end r)
 
 -- What a listing leaves open is only that choice: two listings of one capture are as long as one another, and alike line by line.

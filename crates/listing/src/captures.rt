@@ -1,7 +1,6 @@
 // Reading the records of a capture.
-ghost use Rattle.std.specs.Prelude.{◌≡◌, ◌<◌, ◌≤◌, length, MatchOption, MatchResult, [], ◌∷◌, Some, None};
-ghost use Rattle.block.specs.Refusals.{first_refusal};
-ghost use Rattle.listing.specs.Faults.{fault_case, says};
+ghost use Rattle.std.specs.Prelude.{◌≡◌, ◌<◌, ◌≤◌, length, MatchOption, [], ◌∷◌};
+ghost use Rattle.listing.specs.Carrying.{Reads};
 ghost use Rattle.listing.specs.Captures.{acts, asks, layout, left, octet as octet_at, record_checks, opens, starts, two, takes, decodes, wipes, unknown};
 
 use crate::{Act, Acts, Fault, Layout};
@@ -110,7 +109,7 @@ impl Layout {
     // The layout of the record at a place, if it is read: its map is tested first, and then whether it is cut short.
     pub(crate) fn read(capture: &[u8], place: usize) -> Result<Layout, Fault>
         requires { place ≤ 32768 }
-        ensures { MatchResult result (λ at. (first_refusal (record_checks capture.now place) ≡ None) × (at ≡ layout capture.now place)) (λ fault. (first_refusal (record_checks capture.now place) ≡ Some (fault_case fault).number) × (fault_case fault ≡ says (layout capture.now place) None (fault_case fault).number)) }
+        ensures { Reads capture.now place result }
     {
         if Map(octet(capture, place)).unknown() {
             return Err(Fault::Unknown { place });

@@ -1,8 +1,9 @@
 // Faults: the layer, the place and the number of each.
-ghost use Rattle.std.specs.Prelude.{◌≡◌, ℕ, ◌+◌, ◌≤◌, None, Some, Option};
+ghost use Rattle.std.specs.Prelude.{◌≡◌, ℕ, ◌+◌, ◌≤◌, List, None, Some, Option};
 ghost use Rattle.sheet.specs.Calls.{open_case, take_case};
 ghost use Rattle.sheet.specs.declared.TakeRefusal.TheVariants.{Symbol};
-ghost use Rattle.listing.specs.Faults.{fault_case, says};
+ghost use Rattle.listing.specs.Captures.{to_open, to_take};
+ghost use Rattle.listing.specs.Faults.{ActFault, fault_says};
 
 use crate::{Fault, Layer, Layout};
 use block::SizeRefusal;
@@ -11,7 +12,7 @@ use sheet::{OpenRefusal, TakeRefusal};
 impl Fault {
     // The part of the reader that it comes from.
     pub fn layer(self) -> Layer
-        ensures { result ≡ (fault_case self).layer }
+        ensures { result ≡ (fault_says self).layer }
     {
         match self {
             Fault::Open { .. } => Layer::Sheet,
@@ -25,7 +26,7 @@ impl Fault {
 
     // The place of the capture that it is about, counted from 0.
     pub fn place(self) -> usize
-        ensures { result ≡ (fault_case self).place }
+        ensures { result ≡ (fault_says self).place }
     {
         match self {
             Fault::TooLong => 32768,
@@ -40,7 +41,7 @@ impl Fault {
 
     // The number of the refusal.
     pub fn number(self) -> u8
-        ensures { result ≡ (fault_case self).number }
+        ensures { result ≡ (fault_says self).number }
     {
         match self {
             Fault::TooLong | Fault::CutShort { .. } => 11,
@@ -53,7 +54,7 @@ impl Fault {
 
     // A refused opening, at the field that was refused.
     pub(crate) fn of_open(at: Layout, refusal: OpenRefusal) -> Fault
-        ensures { fault_case result ≡ says at None (open_case refusal).number }
+        ensures { (octets check : ℕ) → ActFault at (to_open octets check) None (open_case refusal).number result }
     {
         let place = match refusal {
             OpenRefusal::Size(SizeRefusal::CheckLength) => at.check,
@@ -66,7 +67,7 @@ impl Fault {
     pub(crate) fn of_take(at: Layout, refusal: TakeRefusal) -> Fault
         requires symbols { at.symbols ≤ 100000 }
         requires index { (index : ℕ) → refusal ≡ Symbol index → index ≤ 100000 }
-        ensures { (first : Option ℕ) → (take_case first refusal).carries → fault_case result ≡ says at first (take_case first refusal).number }
+        ensures { (first start : Option ℕ) (symbols : List ℕ) → (take_case first refusal).carries → ActFault at (to_take start symbols) first (take_case first refusal).number result }
     {
         let place = match refusal {
             TakeRefusal::Tally => at.octets,

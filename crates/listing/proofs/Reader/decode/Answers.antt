@@ -4,7 +4,7 @@ use Rattle.listing.proofs.Carried.{no_sheet, decode_done}
 use Rattle.listing.proofs.Reader.decode.Goals as goal
 
 pub returns-in_default : goal.returns-in_default
-returns-in_default g c = no_sheet _ _ _ _ _ c.args.self.now _ c.args.at _ (Tells g.R.Weighing.scale g.R.Reading.reads g.R.Reading.against) refl refl refl refl c.in_default.is
+returns-in_default g c = no_sheet _ _ _ _ _ c.args.self.now _ c.args.at _ (Tells g.R.Weighing.scale g.R.Reading.reads g.R.Reading.against) refl refl refl refl refl c.in_default.is
 
 pub returns : goal.returns
 returns g c =

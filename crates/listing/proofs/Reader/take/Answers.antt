@@ -5,7 +5,7 @@ use Rattle.listing.proofs.Carried.{no_sheet, refused_within, take_done, take_ref
 use Rattle.listing.proofs.Reader.take.Goals as goal
 
 pub returns-in_default : goal.returns-in_default
-returns-in_default g c = no_sheet _ _ _ _ _ c.args.self.now _ c.args.at _ Silent refl refl refl refl c.in_default.is
+returns-in_default g c = no_sheet _ _ _ _ _ c.args.self.now _ c.args.at _ Silent refl refl refl refl refl c.in_default.is
 
 pub of_take-requires-clause-index : goal.of_take-requires-clause-index
 of_take-requires-clause-index g c = λ index is.
@@ -18,4 +18,4 @@ returns-in-Ok g c =
 
 pub returns-in-Err : goal.returns-in-Err
 returns-in-Err g c =
-    take_refused _ _ _ _ _ c.args.self.now _ c.args.at c.args.start c.unwrap_or-start.result c.args.symbols.now c.in-Err.refusal c.of_take.result c.in-Some.sheet c.take.new.self c.in-Some.is refl c.unwrap_or-start.ensures refl c.in-Err.ensures (c.of_take.ensures _ c.in-Err.ensures.1)
+    take_refused _ _ _ _ _ c.args.self.now _ c.args.at c.args.start c.unwrap_or-start.result c.args.symbols.now c.in-Err.refusal c.of_take.result c.in-Some.sheet c.take.new.self c.in-Some.is refl c.unwrap_or-start.ensures refl c.in-Err.ensures (c.of_take.ensures _ c.args.start c.args.symbols.now c.in-Err.ensures.1)
