@@ -21,6 +21,9 @@ soft_letter = 83
 abbrev pub worst_letter : ℕ
 worst_letter = 87
 
+abbrev pub letters : List ℕ
+letters = hard_letter ∷ soft_letter ∷ worst_letter ∷ []
+
 -- a capture that begins with this letter
 abbrev pub is_letter : ℕ → List ℕ → Bool
 is_letter letter [] = false

@@ -1,5 +1,6 @@
 // The letters of the readings.
-ghost use Rattle.listing.specs.Captures.{hard_letter, soft_letter, worst_letter};
+ghost use Rattle.std.specs.Prelude.{◌≡◌, ◌∷◌, []};
+ghost use Rattle.listing.specs.Captures.{hard_letter, letters, soft_letter, worst_letter};
 
 use crate::Lettered;
 use weighing::hard::Hard;
@@ -22,4 +23,14 @@ impl Lettered for Worst {
     const LETTER: u8 = b'W';
 
     ghost LETTER = { worst_letter };
+}
+
+// The letters of the hard, the soft and the worst reading, in this order.
+pub fn known_letters() -> [u8; 3]
+    ensures are { result ≡ letters }
+    ensures hard { ⟦<Hard as Lettered>⟧.LETTER ≡ hard_letter }
+    ensures soft { ⟦<Soft as Lettered>⟧.LETTER ≡ soft_letter }
+    ensures worst { ⟦<Worst as Lettered>⟧.LETTER ≡ worst_letter }
+{
+    [Hard::LETTER, Soft::LETTER, Worst::LETTER]
 }

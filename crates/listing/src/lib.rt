@@ -13,6 +13,7 @@ mod listings;
 mod telling;
 mod text;
 
+pub use letters::known_letters;
 pub use listings::list;
 use search::Entry;
 use sheet::{OpenRefusal, Sheet, TakeRefusal};

@@ -3,6 +3,7 @@ ghost use Rattle.std.specs.Prelude.{◌≡◌, ◌≤◌, length};
 ghost use Rattle.listing.specs.Owed.{Begins};
 ghost use Rattle.listing.specs.Whole.{ListsCapture, OneListing};
 
+use crate::letters::known_letters;
 use crate::{Acts, ByLetter, Layout, Lettered, Lines, Reader, Stage};
 use search::Entry;
 
@@ -18,7 +19,7 @@ fn first_stage(capture: &[u8], letter: u8) -> Option<Stage>
     }
     match capture.first() {
         Some(first) if *first == letter => Some(Stage::Reading),
-        Some(b'H' | b'S' | b'W') => None,
+        Some(first) if known_letters().contains(first) => None,
         _ => Some(Stage::NoLetter),
     }
 }
