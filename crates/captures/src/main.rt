@@ -2,17 +2,13 @@
 #![tactic(auto)]
 
 use anyhow::Context;
-use listing::{ByLetter, Lettered, list};
+use listing::{PLACES, write_listing};
 use search::Entry;
 use std::alloc::Global;
-use std::fmt;
 use std::io::{self, BufRead, BufReader, BufWriter, Write};
 use weighing::hard::Hard;
 use weighing::soft::Soft;
 use weighing::worst::Worst;
-
-// The places of the tally, as in the program that lists one capture.
-const PLACES: usize = 1792;
 
 // The octets of a capture: each word is an octet in hex, or an octet, a star and how often it stands there.
 fn octets(heap: Global, words: &str) -> anyhow::Result<Vec<u8>> {
@@ -27,25 +23,6 @@ fn octets(heap: Global, words: &str) -> anyhow::Result<Vec<u8>> {
     Ok(octets)
 }
 
-// Writes the listing of a capture by a reading, unless the capture is another's; answers whether it is not.
-fn write<R: Lettered>(
-    capture: &[u8],
-    tally: &mut [Entry<R::Value>],
-    paths: &mut [Option<R::Value>; 32],
-    output: &mut impl Write,
-) -> io::Result<bool>
-where
-    R::Value: fmt::Display,
-{
-    let ByLetter::Lines(lines) = list::<R>(capture, tally, paths) else {
-        return Ok(false);
-    };
-    for line in lines {
-        writeln!(output, "{line}")?;
-    }
-    Ok(true)
-}
-
 // Writes the name of each capture and its listing.
 fn run(rt: &HostRuntime, sums: &mut [Entry<u32>], largest: &mut [Entry<u8>]) -> anyhow::Result<()> {
     let mut output = BufWriter::new(rt.alloc(), io::writer(rt))?;
@@ -57,9 +34,9 @@ fn run(rt: &HostRuntime, sums: &mut [Entry<u32>], largest: &mut [Entry<u8>]) -> 
         let capture = octets(rt.alloc(), words)?;
         let capture = capture.as_slice();
         writeln!(output, "{name}:")?;
-        let _told = write::<Hard>(capture, sums, &mut [None; 32], &mut output)?
-            || write::<Soft>(capture, sums, &mut [None; 32], &mut output)?
-            || write::<Worst>(capture, largest, &mut [None; 32], &mut output)?;
+        let _told = write_listing::<Hard, _>(capture, sums, &mut [None; 32], &mut output)?
+            || write_listing::<Soft, _>(capture, sums, &mut [None; 32], &mut output)?
+            || write_listing::<Worst, _>(capture, largest, &mut [None; 32], &mut output)?;
     }
     output.flush()?;
     Ok(())

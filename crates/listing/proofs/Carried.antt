@@ -32,7 +32,7 @@ use Rattle.listing.specs.declared.Fault.{Fault}
 use Rattle.listing.specs.declared.Fault.TheVariants.{NoSheet}
 use Rattle.listing.specs.declared.Layout.{Layout}
 use Rattle.listing.specs.declared.Named.{Named}
-use Rattle.listing.specs.declared.Reader.{Reader}
+use Rattle.listing.specs.declared.Workspace.{Workspace}
 
 -- the octets that a decode leaves in front are those of the message named
 named_octets : (octets bits n : ℕ) (after rest : List ℕ) → 8 * octets ≤ bits → octets ≤ n → after ≡ filled (with_tail (bits_of after bits)) n ++ rest
@@ -79,8 +79,8 @@ refused_within reads n tally count start octets refusal refuses carries i is =
     omega (arith, unlawful_within reads octets i named, counted_before reads n tally count start octets nine)
 
 module _ {V A : Type 0} (W : Type 0) (g : Ghosts W V) (s : Scale V) (reads : ℕ → Option A) (against : A → Bool → V) where
-  -- a reader that has not changed
-  pub same_stands : (before after : Reader W V g) → after.sheet ≡ before.sheet → after.next_start ≡ before.next_start → after.tally.now ≡ before.tally.now
+  -- a workspace that has not changed
+  pub same_stands : (before after : Workspace W V g) → after.sheet ≡ before.sheet → after.next_start ≡ before.next_start → after.tally.now ≡ before.tally.now
       → (force : Option InForce) → Stands W g s reads against before force → Stands W g s reads against after force
   same_stands before after sheet next tally None stands = sheet ∙ stands
   same_stands before after sheet next tally (Some force) (open-sheet, holds) = (
@@ -92,7 +92,7 @@ module _ {V A : Type 0} (W : Type 0) (g : Ghosts W V) (s : Scale V) (reads : ℕ
     },
   )
 
-  pub open_done : (before after : Reader W V g) (at : Layout) (octets check : ℕ) (columns : List ℕ) (sheet : Sheet W V g) → columns ≡ order_r
+  pub open_done : (before after : Workspace W V g) (at : Layout) (octets check : ℕ) (columns : List ℕ) (sheet : Sheet W V g) → columns ≡ order_r
       → after.sheet ≡ Some sheet → after.next_start ≡ 0 → OpenDoes s octets check columns before.tally.now after.tally.now (Ok sheet)
       → CarriesOut W g s reads against at (to_open octets check) Silent before after (Ok tt)
   open_done before after at octets check columns sheet order is next does = (
@@ -111,7 +111,7 @@ module _ {V A : Type 0} (W : Type 0) (g : Ghosts W V) (s : Scale V) (reads : ℕ
     ),
   )
 
-  pub open_refused : (before after : Reader W V g) (at : Layout) (octets check : ℕ) (columns : List ℕ) (refusal : OpenRefusal) (fault : Fault)
+  pub open_refused : (before after : Workspace W V g) (at : Layout) (octets check : ℕ) (columns : List ℕ) (refusal : OpenRefusal) (fault : Fault)
       → after.sheet ≡ before.sheet → after.next_start ≡ before.next_start
       → OpenDoes s {W = W} {g = g} octets check columns before.tally.now after.tally.now (Err refusal)
       → ActFault at (to_open octets check) None (open_case refusal).number fault
@@ -125,7 +125,7 @@ module _ {V A : Type 0} (W : Type 0) (g : Ghosts W V) (s : Scale V) (reads : ℕ
   )
 
   -- an act that needs a sheet, where none is in force
-  pub no_sheet : {B : Type 0} (before after : Reader W V g) (at : Layout) (asked : Asked) (Told : Option InForce → B → Type 0)
+  pub no_sheet : {B : Type 0} (before after : Workspace W V g) (at : Layout) (asked : Asked) (Told : Option InForce → B → Type 0)
       → after.sheet ≡ before.sheet → after.next_start ≡ before.next_start → after.tally.now ≡ before.tally.now
       → act_checks s reads against (length before.tally.now) None asked ≡ if_refuse true 13 ∷ [] → is_open asked ≡ false → before.sheet ≡ None
       → CarriesOut W g s reads against at asked Told before after (Err (NoSheet at.map))
@@ -136,8 +136,8 @@ module _ {V A : Type 0} (W : Type 0) (g : Ghosts W V) (s : Scale V) (reads : ℕ
       told None stands = (record { number = 13; refuses = ap first_refusal tests; is = record { says_so = refl; carries = needs } }, sheet ∙ none)
       told (Some force) (own, holds) = absurd (none-some own (sym none ∙ holds.sheet_is))
 
-  -- An act on the sheet in force: what holds where the reader's sheet is known to be this one.
-  on_sheet : (before : Reader W V g) (sheet : Sheet W V g) → before.sheet ≡ Some sheet → (P : Option InForce → Type 0)
+  -- An act on the sheet in force: what holds where the workspace's sheet is known to be this one.
+  on_sheet : (before : Workspace W V g) (sheet : Sheet W V g) → before.sheet ≡ Some sheet → (P : Option InForce → Type 0)
       → ((force : InForce) → before.next_start ≡ force.next_start
       → Run W g s reads against force.octets force.check order_r (record { sheet = sheet; tally = before.tally.now; book = force.book }) → P (Some force))
       → (force : Option InForce) → Stands W g s reads against before force → P force
@@ -152,7 +152,7 @@ module _ {V A : Type 0} (W : Type 0) (g : Ghosts W V) (s : Scale V) (reads : ℕ
       → first_refusal (take_checks reads n room count start symbols) ≡ r → first_refusal (take_checks reads n' room count' start' symbols) ≡ r
   same_tests room symbols n count start e = sym (λ i. first_refusal (take_checks reads (n i) room (count i) (start i) symbols)) ∙ e
 
-  pub take_done : (before after : Reader W V g) (at : Layout) (start : Option ℕ) (begin : ℕ) (symbols : List ℕ) (total : ℕ) (sheet sheet' : Sheet W V g)
+  pub take_done : (before after : Workspace W V g) (at : Layout) (start : Option ℕ) (begin : ℕ) (symbols : List ℕ) (total : ℕ) (sheet sheet' : Sheet W V g)
       → before.sheet ≡ Some sheet → after.sheet ≡ Some sheet' → begin ≡ unwrap_or start before.next_start
       → after.next_start ≡ (begin + length symbols / 8) % (4 * block_of sheet')
       → TakeDoes s reads against sheet sheet' before.tally.now after.tally.now begin symbols (Ok total)
@@ -177,7 +177,7 @@ module _ {V A : Type 0} (W : Type 0) (g : Ghosts W V) (s : Scale V) (reads : ℕ
         )),
   )
 
-  pub take_refused : (before after : Reader W V g) (at : Layout) (start : Option ℕ) (begin : ℕ) (symbols : List ℕ) (refusal : TakeRefusal) (fault : Fault) (sheet sheet' : Sheet W V g)
+  pub take_refused : (before after : Workspace W V g) (at : Layout) (start : Option ℕ) (begin : ℕ) (symbols : List ℕ) (refusal : TakeRefusal) (fault : Fault) (sheet sheet' : Sheet W V g)
       → before.sheet ≡ Some sheet → after.sheet ≡ Some sheet' → begin ≡ unwrap_or start before.next_start → after.next_start ≡ before.next_start
       → TakeDoes s reads against sheet sheet' before.tally.now after.tally.now begin symbols (Err refusal)
       → ActFault at (to_take start symbols) (unlawful reads symbols) (take_case (unlawful reads symbols) refusal).number fault
@@ -203,7 +203,7 @@ module _ {V A : Type 0} (W : Type 0) (g : Ghosts W V) (s : Scale V) (reads : ℕ
         )),
   )
 
-  pub wipe_done : (before after : Reader W V g) (at : Layout) (sheet sheet' : Sheet W V g) → before.sheet ≡ Some sheet → after.sheet ≡ Some sheet' → after.next_start ≡ 0
+  pub wipe_done : (before after : Workspace W V g) (at : Layout) (sheet sheet' : Sheet W V g) → before.sheet ≡ Some sheet → after.sheet ≡ Some sheet' → after.next_start ≡ 0
       → WipeDoes s sheet sheet' before.tally.now after.tally.now (Ok tt)
       → CarriesOut W g s reads against at to_wipe Silent before after (Ok tt)
   wipe_done before after at sheet sheet' is is' next does = (
@@ -222,7 +222,7 @@ module _ {V A : Type 0} (W : Type 0) (g : Ghosts W V) (s : Scale V) (reads : ℕ
     )),
   )
 
-  pub decode_done : (before after : Reader W V g) (at : Layout) (sheet : Sheet W V g) (named : Named V) (found : Found V) (target target' words words' : List ℕ) (paths paths' : List (Option V))
+  pub decode_done : (before after : Workspace W V g) (at : Layout) (sheet : Sheet W V g) (named : Named V) (found : Found V) (target target' words words' : List ℕ) (paths paths' : List (Option V))
       → before.sheet ≡ Some sheet → after.sheet ≡ Some sheet → after.next_start ≡ before.next_start → after.tally.now ≡ before.tally.now → named.weight ≡ found.weight → named.check_fits ≡ found.check_fits → octets_of named.message ≡ take sheet.size.octets target'
       → DecodeDoes s sheet before.tally.now target target' words words' paths paths' (Ok found)
       → CarriesOut W g s reads against at to_decode (Tells s reads against) before after (Ok named)
@@ -246,7 +246,7 @@ module _ {V A : Type 0} (W : Type 0) (g : Ghosts W V) (s : Scale V) (reads : ℕ
   )
 
   -- what a silent act, and a decode, let their record tell
-  pub silent_told : (before after : Reader W V g) (at : Layout) (asked : Asked) → ((r : ℕ) (force : Option InForce) → ActTells s reads against r force asked [])
+  pub silent_told : (before after : Workspace W V g) (at : Layout) (asked : Asked) → ((r : ℕ) (force : Option InForce) → ActTells s reads against r force asked [])
       → CarriesOut W g s reads against at asked Silent before after (Ok tt) → CarriesOut W g s reads against at asked (TellsAct s reads against asked) before after (Ok None)
   silent_told before after at asked quiet does = (does.0, λ force stands. let done = does.1 force stands in (done.0, done.1, λ r. quiet r force))
 
@@ -254,6 +254,6 @@ module _ {V A : Type 0} (W : Type 0) (g : Ghosts W V) (s : Scale V) (reads : ℕ
   decode_lines None named tells r = elim tells [ ]
   decode_lines (Some force) named tells r = decoded named.weight named.check_fits (octets_of named.message) tells
 
-  pub decode_told : (before after : Reader W V g) (at : Layout) (named : Named V)
+  pub decode_told : (before after : Workspace W V g) (at : Layout) (named : Named V)
       → CarriesOut W g s reads against at to_decode (Tells s reads against) before after (Ok named) → CarriesOut W g s reads against at to_decode (TellsAct s reads against to_decode) before after (Ok (Some named))
   decode_told before after at named does = (does.0, λ force stands. let done = does.1 force stands in (done.0, done.1, decode_lines force named done.2))

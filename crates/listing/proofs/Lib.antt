@@ -2,3 +2,4 @@ pub mod Carried
 pub mod Drained
 pub mod OnlyOne
 pub mod Owing
+pub mod Written

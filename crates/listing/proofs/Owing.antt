@@ -36,37 +36,37 @@ module _ {V A : Type 0} (W : Type 0) (g : Ghosts W V) (s : Scale V) (reads : ℕ
   none_told no_more = (refl, refl)
 
   others_owed : (lines : Lines W V g) (force : Option InForce) (told : List (Told V))
-      → RecordsTell s reads against (length lines.reader.tally.now) lines.capture.now lines.records lines.at.end force told → Records W g s reads against lines force [] told
+      → RecordsTell s reads against (length lines.workspace.tally.now) lines.capture.now lines.records lines.at.end force told → Records W g s reads against lines force [] told
   others_owed lines force told tell = record { behind = force; first = []; rest = told; record_tells = no_more; others_tell = tell; all = refl }
 
   pub owed_others : (lines : Lines W V g) (force : Option InForce) (told : List (Told V)) → Records W g s reads against lines force [] told
-      → RecordsTell s reads against (length lines.reader.tally.now) lines.capture.now lines.records lines.at.end force told
+      → RecordsTell s reads against (length lines.workspace.tally.now) lines.capture.now lines.records lines.at.end force told
   owed_others lines force told owed =
       let none = none_told owed.record_tells in
       let same : told ≡ owed.rest = owed.all ∙ ap (λ xs. xs ++ owed.rest) none.1 in
-      cast (λ i. RecordsTell s reads against (length lines.reader.tally.now) lines.capture.now lines.records lines.at.end (none.0 i) (sym same i)) owed.others_tell
+      cast (λ i. RecordsTell s reads against (length lines.workspace.tally.now) lines.capture.now lines.records lines.at.end (none.0 i) (sym same i)) owed.others_tell
 
   pub ended_told : (before after : Lines W V g) → before.stage ≡ Reading → left before.acts ≡ [] → length before.capture.now ≤ before.at.end
-      → after.reader ≡ before.reader → after.stage ≡ Ended
+      → after.workspace ≡ before.workspace → after.stage ≡ Ended
       → GoesOn W g s reads against before after (Some (End before.records))
-  ended_told before after stage none done reader stage' force stands = record {
+  ended_told before after stage none done workspace stage' force stands = record {
     force = force;
-    stands = subst (λ r. Stands W g s reads against r force) (sym reader) stands;
+    stands = subst (λ r. Stands W g s reads against r force) (sym workspace) stands;
     owes = λ told owes.
         owes_records before stage force (the_end before.records ∷ told)
         (subst (λ a. Records W g s reads against before force a (the_end before.records ∷ told)) (sym none)
         (others_owed before force (the_end before.records ∷ told)
-        (subst (λ t. RecordsTell s reads against (length before.reader.tally.now) before.capture.now before.records before.at.end force (the_end before.records ∷ t)) (sym (owed_at after Ended stage' force told owes)) (ended done))));
+        (subst (λ t. RecordsTell s reads against (length before.workspace.tally.now) before.capture.now before.records before.at.end force (the_end before.records ∷ t)) (sym (owed_at after Ended stage' force told owes)) (ended done))));
   }
 
   pub stopped_told : (before after : Lines W V g) (fault : Fault) → before.stage ≡ Reading → left before.acts ≡ [] → before.at.end < length before.capture.now
       → first_refusal (record_checks before.capture.now before.at.end) ≡ Some (fault_says fault).number
       → fault ≡ record_fault before.at.end (fault_says fault).number
-      → after.reader ≡ before.reader → after.records ≡ before.records → after.stage ≡ Stopped
+      → after.workspace ≡ before.workspace → after.records ≡ before.records → after.stage ≡ Stopped
       → GoesOn W g s reads against before after (Some (Faulty (before.records + 1) fault))
-  stopped_told before after fault stage none more refuses is reader records stage' force stands = record {
+  stopped_told before after fault stage none more refuses is workspace records stage' force stands = record {
     force = force;
-    stands = subst (λ r. Stands W g s reads against r force) (sym reader) stands;
+    stands = subst (λ r. Stands W g s reads against r force) (sym workspace) stands;
     owes = λ told owes.
         let rest : told ≡ the_end before.records ∷ [] = owed_at after Stopped stage' force told owes ∙ ap (λ n. the_end n ∷ []) records in
         let all : a_fault (suc before.records) (record_fault before.at.end (fault_says fault).number) ∷ the_end before.records ∷ [] ≡ a_fault (before.records + 1) fault ∷ told =
@@ -74,35 +74,35 @@ module _ {V A : Type 0} (W : Type 0) (g : Ghosts W V) (s : Scale V) (reads : ℕ
         owes_records before stage force (a_fault (before.records + 1) fault ∷ told)
         (subst (λ a. Records W g s reads against before force a (a_fault (before.records + 1) fault ∷ told)) (sym none)
         (others_owed before force (a_fault (before.records + 1) fault ∷ told)
-        (subst (λ t. RecordsTell s reads against (length before.reader.tally.now) before.capture.now before.records before.at.end force t) all (stopped more refuses))));
+        (subst (λ t. RecordsTell s reads against (length before.workspace.tally.now) before.capture.now before.records before.at.end force t) all (stopped more refuses))));
   }
 
   pub begun : (before after : Lines W V g) → before.stage ≡ Reading → left before.acts ≡ [] → before.at.end < length before.capture.now
       → first_refusal (record_checks before.capture.now before.at.end) ≡ None → after.at ≡ layout before.capture.now before.at.end
       → left after.acts ≡ acts after.capture.now after.at.map
-      → after.capture ≡ before.capture → after.reader ≡ before.reader → after.records ≡ before.records + 1 → after.stage ≡ Reading
+      → after.capture ≡ before.capture → after.workspace ≡ before.workspace → after.records ≡ before.records + 1 → after.stage ≡ Reading
       → GoesOn W g s reads against before after None
-  begun before after stage none more passes at left_are capture reader records stage' force stands =
+  begun before after stage none more passes at left_are capture workspace records stage' force stands =
       let map : after.at.map ≡ before.at.end = ap (λ (x : Layout). x.map) at in
       let count : after.records ≡ suc before.records = records ∙ add-one before.records in
       let acts_are : left after.acts ≡ acts before.capture.now before.at.end = left_are ∙ (λ j. acts ((capture j).now) (map j)) in
       record {
         force = force;
-        stands = subst (λ r. Stands W g s reads against r force) (sym reader) stands;
+        stands = subst (λ r. Stands W g s reads against r force) (sym workspace) stands;
         owes = λ told owes.
             let owed = owed_at after Reading stage' force told owes in
-            let here : RecordTells s reads against (length before.reader.tally.now) (suc before.records) (layout before.capture.now before.at.end) force (acts before.capture.now before.at.end) owed.behind owed.first =
-            cast (λ i. RecordTells s reads against (length (reader i).tally.now) (count i) (at i) force (acts_are i) owed.behind owed.first) owed.record_tells in
-            let others : RecordsTell s reads against (length before.reader.tally.now) before.capture.now (suc before.records) (layout before.capture.now before.at.end).end owed.behind owed.rest =
-            cast (λ i. RecordsTell s reads against (length (reader i).tally.now) (capture i).now (count i) (at i).end owed.behind owed.rest) owed.others_tell in
+            let here : RecordTells s reads against (length before.workspace.tally.now) (suc before.records) (layout before.capture.now before.at.end) force (acts before.capture.now before.at.end) owed.behind owed.first =
+            cast (λ i. RecordTells s reads against (length (workspace i).tally.now) (count i) (at i) force (acts_are i) owed.behind owed.first) owed.record_tells in
+            let others : RecordsTell s reads against (length before.workspace.tally.now) before.capture.now (suc before.records) (layout before.capture.now before.at.end).end owed.behind owed.rest =
+            cast (λ i. RecordsTell s reads against (length (workspace i).tally.now) (capture i).now (count i) (at i).end owed.behind owed.rest) owed.others_tell in
             owes_records before stage force told
             (subst (λ a. Records W g s reads against before force a told) (sym none)
-            (others_owed before force told (subst (λ t. RecordsTell s reads against (length before.reader.tally.now) before.capture.now before.records before.at.end force t) (sym owed.all) (read more passes here others))));
+            (others_owed before force told (subst (λ t. RecordsTell s reads against (length before.workspace.tally.now) before.capture.now before.records before.at.end force t) (sym owed.all) (read more passes here others))));
       }
 
   pub carried : (before after : Lines W V g) (asked : Asked) (named : Option (Named V)) (line : Option (Line V))
       → ((told : List (Told V)) → named_lines before.records named ++ told ≡ told_first line told)
-      → CarriesOut W g s reads against before.at asked (TellsAct s reads against asked) before.reader after.reader (Ok named)
+      → CarriesOut W g s reads against before.at asked (TellsAct s reads against asked) before.workspace after.workspace (Ok named)
       → after.capture ≡ before.capture → after.at ≡ before.at → after.acts ≡ before.acts → after.records ≡ before.records → after.stage ≡ Reading
       → CarriesOn W g s reads against asked before after line
   carried before after asked named line first does capture at acts_are records stage' force stands =
@@ -124,7 +124,7 @@ module _ {V A : Type 0} (W : Type 0) (g : Ghosts W V) (s : Scale V) (reads : ℕ
       }
 
   pub skipped : (before after : Lines W V g) (asked : Asked) (fault : Fault)
-      → CarriesOut W g s reads against before.at asked (TellsAct s reads against asked) before.reader after.reader (Err fault)
+      → CarriesOut W g s reads against before.at asked (TellsAct s reads against asked) before.workspace after.workspace (Err fault)
       → after.capture ≡ before.capture → after.at ≡ before.at → left after.acts ≡ [] → after.records ≡ before.records → after.stage ≡ Reading
       → CarriesOn W g s reads against asked before after (Some (Faulty before.records fault))
   skipped before after asked fault does capture at none records stage' force stands =

@@ -13,7 +13,7 @@ use Rattle.listing.specs.Listings.{ActTells, InForce, TellsNearest, act_checks, 
 use Rattle.listing.specs.declared.Fault.{Fault}
 use Rattle.listing.specs.declared.Layout.{Layout}
 use Rattle.listing.specs.declared.Named.{Named}
-use Rattle.listing.specs.declared.Reader.{Reader}
+use Rattle.listing.specs.declared.Workspace.{Workspace}
 
 -- Reading a record: it passes its tests and has its layout, or the first test that fails gives the fault.
 abbrev pub Reads : List ℕ → ℕ → Result Layout Fault → Type 0
@@ -40,15 +40,16 @@ abbrev pub TellsAct : {V A : Type 0} → Scale V → (ℕ → Option A) → (A �
 TellsAct s reads against asked force named = (r : ℕ) → ActTells s reads against r force asked (named_lines r named)
 
 module _ {V A : Type 0} (W : Type 0) (g : Ghosts W V) (s : Scale V) (reads : ℕ → Option A) (against : A → Bool → V) where
-  -- A reader with a sheet in force: it is as a run of calls left it, with the tally and the book.
-  pub record Holds (reader : Reader W V g) (force : InForce) (sheet : Sheet W V g) : Type 0 where
-    pub sheet_is : reader.sheet ≡ Some sheet
-    pub next_is : reader.next_start ≡ force.next_start
-    pub runs : Run W g s reads against force.octets force.check order_r (record { sheet = sheet; tally = reader.tally.now; book = force.book })
+  -- A workspace with a sheet in force: it is as a run of calls left it, with the tally and the book.
+  pub record Holds (workspace : Workspace W V g) (force : InForce) (sheet : Sheet W V g) : Type 0 where
+    pub sheet_is : workspace.sheet ≡ Some sheet
+    pub next_is : workspace.next_start ≡ force.next_start
+    pub runs : Run W g s reads against force.octets force.check order_r (record { sheet = sheet; tally = workspace.tally.now; book = force.book })
 
-  abbrev pub Stands : Reader W V g → Option InForce → Type 0
-  Stands reader None = reader.sheet ≡ None
-  Stands reader (Some force) = (sheet : Sheet W V g) × Holds reader force sheet
+  -- a workspace, and what is in force by the rules
+  abbrev pub Stands : Workspace W V g → Option InForce → Type 0
+  Stands workspace None = workspace.sheet ≡ None
+  Stands workspace (Some force) = (sheet : Sheet W V g) × Holds workspace force sheet
 
   -- the fault of an act that a test refuses, in the record with this layout
   pub record Faults (at : Layout) (room : ℕ) (force : Option InForce) (asked : Asked) (fault : Fault) : Type 0 where
@@ -57,11 +58,11 @@ module _ {V A : Type 0} (W : Type 0) (g : Ghosts W V) (s : Scale V) (reads : ℕ
     pub is : ActFault at asked (first_unlawful reads asked) number fault
 
   -- What carrying out an act does: it is performed just where its tests pass, and what is in force then is the rules'; a refused
-  -- one changes nothing. Told is what holds of the answer.
-  abbrev pub CarriesOut : {B : Type 0} → Layout → Asked → (Option InForce → B → Type 0) → Reader W V g → Reader W V g → Result B Fault → Type 0
-  CarriesOut at asked Told before after r =
+  -- one changes nothing. Answered is what holds of the answer.
+  abbrev pub CarriesOut : {B : Type 0} → Layout → Asked → (Option InForce → B → Type 0) → Workspace W V g → Workspace W V g → Result B Fault → Type 0
+  CarriesOut at asked Answered before after r =
       (length after.tally.now ≡ length before.tally.now)
       × ((force : Option InForce) → Stands before force
       → MatchResult r
-      (λ x. (first_refusal (act_checks s reads against (length before.tally.now) force asked) ≡ None) × Stands after (after_act force asked) × Told force x)
+      (λ x. (first_refusal (act_checks s reads against (length before.tally.now) force asked) ≡ None) × Stands after (after_act force asked) × Answered force x)
       (λ fault. Faults at (length before.tally.now) force asked fault × Stands after force))

@@ -1,6 +1,6 @@
 -- The lines of a listing, and their text. Assumes nothing.
 use Rattle.std.specs.Prelude.{ℕ, ◌/◌, ◌%◌, Bool, false, cond, List, [], ◌∷◌, ◌++◌, take, codes, decimal, flat_map, Some, Option}
-use Rattle.std.specs.Fmt.{digit_glyph, ◌++?◌}
+use Rattle.std.specs.Fmt.{digit_glyph, with_newline, ◌++?◌}
 use Rattle.listing.specs.Faults.{fault_says}
 use Rattle.listing.specs.declared.Fault.{Fault}
 use Rattle.listing.specs.declared.Layer.{Layer}
@@ -44,3 +44,8 @@ text shown (a_decode r weight fits octets) =
 text shown (a_fault r fault) =
     Some (codes "F " ++ decimal r ++ codes " " ++ decimal (fault_says fault).place ++ codes " " ++ layer_letter (fault_says fault).layer ++ codes " " ++ decimal (fault_says fault).number)
 text shown (the_end r) = Some (codes "E " ++ decimal r)
+
+-- the text of lines, each with a newline behind it
+abbrev pub whole_text : {V : Type 0} → (V → Option (List ℕ)) → List (Told V) → Option (List ℕ)
+whole_text shown [] = Some []
+whole_text shown (line ∷ more) = with_newline (text shown line) ++? whole_text shown more

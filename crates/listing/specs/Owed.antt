@@ -42,8 +42,8 @@ module _ {V A : Type 0} (W : Type 0) (g : Ghosts W V) (s : Scale V) (reads : ℕ
     pub behind : Option InForce
     pub first : List (Told V)
     pub rest : List (Told V)
-    pub record_tells : RecordTells s reads against (length lines.reader.tally.now) lines.records lines.at force acts behind first
-    pub others_tell : RecordsTell s reads against (length lines.reader.tally.now) lines.capture.now lines.records lines.at.end behind rest
+    pub record_tells : RecordTells s reads against (length lines.workspace.tally.now) lines.records lines.at force acts behind first
+    pub others_tell : RecordsTell s reads against (length lines.workspace.tally.now) lines.capture.now lines.records lines.at.end behind rest
     pub all : told ≡ first ++ rest
 
   abbrev pub OwesAt : Stage → Lines W V g → Option InForce → List (Told V) → Type 0
@@ -60,19 +60,19 @@ module _ {V A : Type 0} (W : Type 0) (g : Ghosts W V) (s : Scale V) (reads : ℕ
   -- A step from a point at which `before` was owed: either it tells a line, or none, and the others are still owed.
   pub record Steps (before : List (Told V) → Type 0) (r : Option (Line V)) (after : Lines W V g) : Type 0 where
     pub force : Option InForce
-    pub stands : Stands W g s reads against after.reader force
+    pub stands : Stands W g s reads against after.workspace force
     pub owes : (told : List (Told V)) → Owes after force told → before (told_first r told)
 
   -- a step from a listing as it stands
   abbrev pub GoesOn : Lines W V g → Lines W V g → Option (Line V) → Type 0
-  GoesOn before after r = (force : Option InForce) → Stands W g s reads against before.reader force → Steps (Owes before force) r after
+  GoesOn before after r = (force : Option InForce) → Stands W g s reads against before.workspace force → Steps (Owes before force) r after
 
   -- a step that carries out an act, which stood before those that are left
   abbrev pub CarriesOn : Asked → Lines W V g → Lines W V g → Option (Line V) → Type 0
   CarriesOn asked before after r =
-      (force : Option InForce) → Stands W g s reads against before.reader force → Steps (Records before force (asked ∷ left before.acts)) r after
+      (force : Option InForce) → Stands W g s reads against before.workspace force → Steps (Records before force (asked ∷ left before.acts)) r after
 
   -- What `next` gives: a line, with which the listing goes on; or none where none is owed, and then none is owed any more.
   abbrev pub Gives : Lines W V g → Option (Line V) → Lines W V g → Type 0
   Gives before r after =
-      (force : Option InForce) → Stands W g s reads against before.reader force → MatchOption r (Owes before force [] × (after.stage ≡ Ended)) (λ line. Steps (Owes before force) (Some line) after)
+      (force : Option InForce) → Stands W g s reads against before.workspace force → MatchOption r (Owes before force [] × (after.stage ≡ Ended)) (λ line. Steps (Owes before force) (Some line) after)

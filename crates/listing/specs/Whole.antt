@@ -1,12 +1,13 @@
 -- The theorem on whole listings. Assumes nothing.
-use Rattle.std.specs.Prelude.{◌≡◌, ℕ, Bool, true, false, List, map, Option}
+use Rattle.std.specs.Prelude.{◌≡◌, ℕ, Bool, true, false, List, map, IfSome, Option}
 use Rattle.std.specs.Iterator.{Drains}
+use Rattle.std.specs.Io.KnownBytes.{Appends, Keeps}
 use Rattle.std.specs.List.{AllZip}
 use Rattle.weighing.specs.Scales.{Scale}
 use Rattle.weighing.specs.declared.Weighing.{Ghosts}
 use Rattle.listing.specs.Captures.{is_of_another}
 use Rattle.listing.specs.Faults.{fault_says}
-use Rattle.listing.specs.Lines.{Told, a_decode, a_fault, tells, the_end}
+use Rattle.listing.specs.Lines.{Told, a_decode, a_fault, tells, the_end, whole_text}
 use Rattle.listing.specs.Listings.{IsListing}
 use Rattle.listing.specs.declared.ByLetter.{ByLetter}
 use Rattle.listing.specs.declared.ByLetter.TheVariants.{Lines as ByLines, OfAnother}
@@ -36,3 +37,11 @@ abbrev pub OneListing : {V A : Type 0} → Scale V → (ℕ → Option A) → (A
 OneListing {V} s reads against =
     (letter room : ℕ) (capture : List ℕ) (first second : List (Told V)) → IsListing s reads against room letter capture first → IsListing s reads against room letter capture second
     → AllZip (Alike s) first second
+
+-- What is written of a capture: its listing, each line with a newline behind it; or nothing, where the capture is another reading's.
+-- It speaks of writers that say what they hold, and of weights that say how they are shown.
+abbrev pub WritesListing : {V A : Type 0} → Scale V → (ℕ → Option A) → (A → Bool → V) → (letter room : ℕ) → List ℕ → (V → Option (List ℕ)) → Option (List ℕ) → Option (List ℕ) → Bool → Type 0
+WritesListing s reads against letter room capture shown before after false = (is_of_another letter capture ≡ true) × Keeps before after
+WritesListing {V} s reads against letter room capture shown before after true =
+    (is_of_another letter capture ≡ false)
+    × ((lines : List (Told V)) × IsListing s reads against room letter capture lines × IfSome (whole_text shown lines) (Appends before after))

@@ -3,12 +3,12 @@ ghost use Rattle.std.specs.Prelude.{◌≤◌};
 ghost use Rattle.listing.specs.Carrying.{CarriesOut, Silent, Tells, TellsAct};
 ghost use Rattle.listing.specs.Captures.{asks, to_decode, to_open, to_take, to_wipe};
 
-use crate::{Act, Fault, Layout, Message, Named, Reader};
+use crate::{Act, Fault, Layout, Message, Named, Workspace};
 use code::Order;
 use sheet::Sheet;
 use weighing::Reading;
 
-impl<R: Reading> Reader<'_, R> {
+impl<R: Reading> Workspace<'_, R> {
     // Opens a sheet. A refused one leaves the sheet in force.
     fn open(&mut self, at: Layout, octets: usize, check: usize) -> Result<(), Fault>
         ensures { CarriesOut R R.Weighing R.Weighing.scale R.Reading.reads R.Reading.against at (to_open octets check) Silent self.old self.new result }

@@ -143,7 +143,7 @@ impl<'a> Acts<'a> {
         ensures { left result ≡ acts capture.now at.map }
     {
         let map = Map(octet(capture, at.map));
-        // no `then` with a closure: of its body no proof knows the layout
+        // not `then`: what the record's layout says is not known in a closure
         let open = if map.opens() {
             Some(Act::Open {
                 octets: number(capture, at.octets),

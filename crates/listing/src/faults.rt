@@ -5,12 +5,12 @@ ghost use Rattle.sheet.specs.declared.TakeRefusal.TheVariants.{Symbol};
 ghost use Rattle.listing.specs.Captures.{to_open, to_take};
 ghost use Rattle.listing.specs.Faults.{ActFault, fault_says};
 
-use crate::{Fault, Layer, Layout};
+use crate::{Fault, Layer, Layout, MOST_OCTETS};
 use block::SizeRefusal;
 use sheet::{OpenRefusal, TakeRefusal};
 
 impl Fault {
-    // The part of the reader that it comes from.
+    // The part of the workspace that it comes from.
     pub fn layer(self) -> Layer
         ensures { result ≡ (fault_says self).layer }
     {
@@ -29,7 +29,7 @@ impl Fault {
         ensures { result ≡ (fault_says self).place }
     {
         match self {
-            Fault::TooLong => 32768,
+            Fault::TooLong => MOST_OCTETS,
             Fault::Letter => 0,
             Fault::Unknown { place }
             | Fault::CutShort { place }

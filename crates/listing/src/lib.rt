@@ -12,12 +12,20 @@ mod letters;
 mod listings;
 mod telling;
 mod text;
+mod writing;
 
 pub use letters::known_letters;
 pub use listings::list;
 use search::Entry;
 use sheet::{OpenRefusal, Sheet, TakeRefusal};
 use weighing::{Reading, Weighing};
+pub use writing::write_listing;
+
+// A capture has at most this many octets.
+pub const MOST_OCTETS: usize = 32768;
+
+// The places of the tally that the programs keep, so that a block has up to 56 octets.
+pub const PLACES: usize = 1792;
 
 // An act that a record asks for. A rule of the project: a take borrows its symbols from the capture.
 #[derive(Clone, Copy, Debug, PartialEq)]
@@ -84,7 +92,7 @@ pub enum Fault {
     Take { place: usize, refusal: TakeRefusal },
 }
 
-// The message that a decode named: the target as the decode left it, and how many of its octets, the first, are the report's.
+// The message that a decode named: the block as the decode wrote it, which begins with so many octets of the report.
 #[derive(Clone, Copy)]
 pub struct Message {
     block: [u8; 516],
@@ -119,7 +127,7 @@ pub trait Lettered: Reading {
 // What the acts are carried out on: the tally, the sheet in force, and the octet at which a take with no start field begins. The
 // path weights of the decodes are lent too, since generic code cannot make an array of weights.
 #[derive(Drop)]
-pub(crate) struct Reader<'a, W: Weighing> {
+pub(crate) struct Workspace<'a, W: Weighing> {
     tally: &'a mut [Entry<W::Value>],
     sheet: Option<Sheet<W>>,
     next_start: usize,
@@ -145,7 +153,7 @@ enum Stage {
 #[derive(Drop)]
 pub struct Lines<'a, W: Weighing> {
     capture: &'a [u8],
-    reader: Reader<'a, W>,
+    workspace: Workspace<'a, W>,
     // the record that was read last, its acts that are still to be carried out, and how many were read whole
     at: Layout,
     acts: Acts<'a>,

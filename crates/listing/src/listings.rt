@@ -4,11 +4,8 @@ ghost use Rattle.listing.specs.Owed.{Begins};
 ghost use Rattle.listing.specs.Whole.{ListsCapture, OneListing};
 
 use crate::letters::known_letters;
-use crate::{Acts, ByLetter, Layout, Lettered, Lines, Reader, Stage};
+use crate::{Acts, ByLetter, Layout, Lettered, Lines, MOST_OCTETS, Stage, Workspace};
 use search::Entry;
-
-// A capture has at most this many octets.
-const MOST_OCTETS: usize = 32768;
 
 // How the listing of a capture begins, by the reading with this letter; none where it is another reading's.
 fn first_stage(capture: &[u8], letter: u8) -> Option<Stage>
@@ -52,7 +49,7 @@ pub fn list<'a, R: Lettered>(
     };
     ByLetter::Lines(Lines {
         capture: readable(capture),
-        reader: Reader {
+        workspace: Workspace {
             tally,
             sheet: None,
             next_start: 0,

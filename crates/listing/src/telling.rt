@@ -16,7 +16,7 @@ impl<'a, R: Reading> Lines<'a, R> {
         ensures fewer { todo self.new ≤ todo self.old }
     {
         let record = self.records;
-        match self.reader.perform(self.at, act) {
+        match self.workspace.perform(self.at, act) {
             Ok(None) => None,
             Ok(Some(named)) => Some(Line::Decoded { record, named }),
             Err(fault) => {

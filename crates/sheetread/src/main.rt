@@ -3,19 +3,15 @@
 
 ghost use Rattle.std.specs.Prelude.{◌≤◌, length, IfOk};
 
-use listing::{ByLetter, Lettered, list};
+use listing::{MOST_OCTETS, PLACES, write_listing};
 use search::Entry;
-use std::fmt;
 use std::io::{self, BufWriter, Read, Write};
 use weighing::hard::Hard;
 use weighing::soft::Soft;
 use weighing::worst::Worst;
 
 // One octet more than a capture may have, so that one that is too long is seen to be, and nothing is read behind it.
-const INPUT: usize = 32769;
-
-// The places of the tally, so that a block has up to 56 octets.
-const PLACES: usize = 1792;
+const INPUT: usize = MOST_OCTETS + 1;
 
 // Fills the buffer with what comes, up to the end of the input or of the buffer; answers how many octets came.
 fn fill(input: &mut impl Read, buffer: &mut [u8]) -> io::Result<usize>
@@ -32,27 +28,6 @@ fn fill(input: &mut impl Read, buffer: &mut [u8]) -> io::Result<usize>
     Ok(filled)
 }
 
-// Prints the listing of a capture, unless it begins with the letter of another reading; answers whether it does not.
-fn print<R: Lettered>(
-    capture: &[u8],
-    tally: &mut [Entry<R::Value>],
-    paths: &mut [Option<R::Value>; 32],
-    output: &mut impl Write,
-) -> io::Result<bool>
-where
-    R::Value: fmt::Display,
-{
-    match list::<R>(capture, tally, paths) {
-        ByLetter::OfAnother => Ok(false),
-        ByLetter::Lines(lines) => {
-            for line in lines {
-                writeln!(output, "{line}")?;
-            }
-            Ok(true)
-        }
-    }
-}
-
 // Reads a capture and prints its listing, over the memory that it is lent.
 fn run(
     rt: &HostRuntime,
@@ -64,9 +39,9 @@ fn run(
     let capture = &input[..octets];
     let mut output = BufWriter::new(rt.alloc(), io::writer(rt))?;
     // one of the three finds its letter, or the first tells that there is none
-    let _told = print::<Hard>(capture, sums, &mut [None; 32], &mut output)?
-        || print::<Soft>(capture, sums, &mut [None; 32], &mut output)?
-        || print::<Worst>(capture, largest, &mut [None; 32], &mut output)?;
+    let _told = write_listing::<Hard, _>(capture, sums, &mut [None; 32], &mut output)?
+        || write_listing::<Soft, _>(capture, sums, &mut [None; 32], &mut output)?
+        || write_listing::<Worst, _>(capture, largest, &mut [None; 32], &mut output)?;
     output.flush()
 }
 

@@ -2,7 +2,7 @@ use Rattle.std.proofs.Common.{◌+◌, ◌*◌, ◌/◌, ◌%◌, ap, length, re
 use Rattle.sheet.specs.Calls.{block_of}
 use Rattle.listing.specs.Carrying.{Silent}
 use Rattle.listing.proofs.Carried.{no_sheet, refused_within, take_done, take_refused}
-use Rattle.listing.proofs.Reader.take.Goals as goal
+use Rattle.listing.proofs.Workspace.take.Goals as goal
 
 pub returns-in_default : goal.returns-in_default
 returns-in_default g c = no_sheet _ _ _ _ _ c.args.self.now _ c.args.at _ Silent refl refl refl refl refl c.in_default.is

@@ -1,7 +1,7 @@
 use Rattle.std.proofs.Common.{ap, refl, take}
 use Rattle.listing.specs.Carrying.{Tells}
 use Rattle.listing.proofs.Carried.{no_sheet, decode_done}
-use Rattle.listing.proofs.Reader.decode.Goals as goal
+use Rattle.listing.proofs.Workspace.decode.Goals as goal
 
 pub returns-in_default : goal.returns-in_default
 returns-in_default g c = no_sheet _ _ _ _ _ c.args.self.now _ c.args.at _ (Tells g.R.Weighing.scale g.R.Reading.reads g.R.Reading.against) refl refl refl refl refl c.in_default.is

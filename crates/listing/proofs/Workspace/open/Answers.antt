@@ -1,6 +1,6 @@
 use Rattle.std.proofs.Common.{refl}
 use Rattle.listing.proofs.Carried.{open_done, open_refused}
-use Rattle.listing.proofs.Reader.open.Goals as goal
+use Rattle.listing.proofs.Workspace.open.Goals as goal
 
 pub returns-in-Ok : goal.returns-in-Ok
 returns-in-Ok g c = open_done _ _ _ _ _ c.args.self.now _ c.args.at _ _ c.order_r.result.columns c.in-Ok.sheet c.order_r.ensures refl refl c.in-Ok.ensures

@@ -1,7 +1,7 @@
 use Rattle.listing.specs.Listings.{quiet_open, quiet_take, quiet_wipe}
 use Rattle.listing.proofs.Carried.{decode_told, silent_told}
-use Rattle.listing.proofs.Reader.perform.Goals as goal
-use Rattle.listing.proofs.Reader.perform.Goals.{in-Open+in_ok-open-in-Open, in-Take+in_ok-take-in-Take, in-Wipe+in_ok-wipe-in-Wipe}
+use Rattle.listing.proofs.Workspace.perform.Goals as goal
+use Rattle.listing.proofs.Workspace.perform.Goals.{in-Open+in_ok-open-in-Open, in-Take+in_ok-take-in-Take, in-Wipe+in_ok-wipe-in-Wipe}
 
 pub returns-in-Decode : goal.returns-in-Decode
 returns-in-Decode g c = rw c.in-Decode.is (decode_told _ _ _ _ _ c.args.self.now _ c.args.at c.in_ok-decode-in-Decode.field-0 c.in_ok-decode-in-Decode.ensures)
