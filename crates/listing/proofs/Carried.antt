@@ -121,6 +121,7 @@ module _ {V A : Type 0} (W : Type 0) (g : Ghosts W V) (s : Scale V) (reads : ℕ
     λ force stands. (
       record { number = (open_case refusal).number; refuses = does.0; is = is },
       same_stands before after sheet next does.2 force stands,
+      does.2,
     ),
   )
 
@@ -132,8 +133,8 @@ module _ {V A : Type 0} (W : Type 0) (g : Ghosts W V) (s : Scale V) (reads : ℕ
   no_sheet {B} before after at asked Told sheet next tally tests needs none = (ap length tally, told)
     where
       told : (force : Option InForce) → Stands W g s reads against before force
-          → Faults W g s reads against at (length before.tally.now) force asked (NoSheet at.map) × Stands W g s reads against after force
-      told None stands = (record { number = 13; refuses = ap first_refusal tests; is = record { says_so = refl; carries = needs } }, sheet ∙ none)
+          → Faults W g s reads against at (length before.tally.now) force asked (NoSheet at.map) × Stands W g s reads against after force × (after.tally.now ≡ before.tally.now)
+      told None stands = (record { number = 13; refuses = ap first_refusal tests; is = record { says_so = refl; carries = needs } }, sheet ∙ none, tally)
       told (Some force) (own, holds) = absurd (none-some own (sym none ∙ holds.sheet_is))
 
   -- An act on the sheet in force: what holds where the workspace's sheet is known to be this one.
@@ -200,6 +201,7 @@ module _ {V A : Type 0} (W : Type 0) (g : Ghosts W V) (s : Scale V) (reads : ℕ
               runs = subst (λ t. Run W g s reads against force.octets force.check order_r (record { sheet = sheet; tally = t; book = force.book })) (sym does.2.1) runs;
             },
           ),
+          does.2.1,
         )),
   )
 

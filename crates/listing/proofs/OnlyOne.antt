@@ -45,11 +45,11 @@ module _ {V A : Type 0} (s : Scale V) (reads : ℕ → Option A) (against : A �
     record_alike {r} {at} (refused {number = n} {fault} refuses is) (refused {number = n'} {fault = fault'} refuses' is') =
         (refl, (faults_alike r fault fault' (is.says_so ∙ ap (says at _) (same_Some n n' (sym refuses ∙ refuses')) ∙ sym is'.says_so), tt))
 
-    alike : {capture : List ℕ} {r place : ℕ} {force : Option InForce} {first second : List (Told V)}
-        → RecordsTell s reads against room capture r place force first → RecordsTell s reads against room capture r place force second → Same first second
-    alike {capture} (read {r} {place} {lines = lines₁} {rest = rest₁} more passes one others₁) (read {lines = lines₂} {rest = rest₂} more' passes' two others₂) =
+    alike : {capture : List ℕ} {r place : ℕ} {force last₁ last₂ : Option InForce} {first second : List (Told V)}
+        → RecordsTell s reads against room capture r place force last₁ first → RecordsTell s reads against room capture r place force last₂ second → Same first second
+    alike {capture} {last₂} (read {r} {place} {lines = lines₁} {rest = rest₁} more passes one others₁) (read {lines = lines₂} {rest = rest₂} more' passes' two others₂) =
         let here = record_alike one two in
-        joined lines₁ lines₂ rest₁ rest₂ here.1 (alike others₁ (subst (λ f. RecordsTell s reads against room capture (suc r) (layout capture place).end f rest₂) here.0 others₂))
+        joined lines₁ lines₂ rest₁ rest₂ here.1 (alike others₁ (subst (λ f. RecordsTell s reads against room capture (suc r) (layout capture place).end f last₂ rest₂) here.0 others₂))
     alike (read more passes one others) (stopped {number = n} more' refuses) = absurd (none-some n (sym passes ∙ refuses))
     alike (read more passes one others) (ended done) = absurd (omega (arith, more, done))
     alike (stopped {number = n} more refuses) (read more' passes two others) = absurd (none-some n (sym passes ∙ refuses))
@@ -63,13 +63,13 @@ module _ {V A : Type 0} (s : Scale V) (reads : ℕ → Option A) (against : A �
   both_are : {first second : List (Told V)} (xs : List (Told V)) → Same xs xs → first ≡ xs → second ≡ xs → Same first second
   both_are {first} {second} xs own a b = subst (λ x. Same x second) (sym a) (subst (Same xs) (sym b) own)
 
-  one_told : (long known : Bool) {P : List (Told V) → Type 0} (xs ys : List (Told V)) → ((a b : List (Told V)) → P a → P b → Same a b) → Same xs xs → Same ys ys → (first second : List (Told V))
-      → MatchBool long (first ≡ xs) (MatchBool known (P first) (first ≡ ys)) → MatchBool long (second ≡ xs) (MatchBool known (P second) (second ≡ ys)) → Same first second
-  one_told true known xs ys two one none first second a b = both_are xs one a b
-  one_told false true xs ys two one none first second a b = two first second a b
-  one_told false false xs ys two one none first second a b = both_are ys none a b
+  one_told : (long known : Bool) (P Q : List (Told V) → Type 0) (L M : Type 0) (xs ys : List (Told V)) → ((a b : List (Told V)) → P a → Q b → Same a b) → Same xs xs → Same ys ys → (first second : List (Told V))
+      → MatchBool long ((first ≡ xs) × L) (MatchBool known (P first) ((first ≡ ys) × L)) → MatchBool long ((second ≡ xs) × M) (MatchBool known (Q second) ((second ≡ ys) × M)) → Same first second
+  one_told true known P Q L M xs ys two one none first second a b = both_are xs one a.0 b.0
+  one_told false true P Q L M xs ys two one none first second a b = two first second a b
+  one_told false false P Q L M xs ys two one none first second a b = both_are ys none a.0 b.0
 
 pub one_listing : {V A : Type 0} (s : Scale V) (reads : ℕ → Option A) (against : A → Bool → V) → OneListing s reads against
-one_listing s reads against letter room capture first second a b =
-    one_told s reads against (nat_lt most_octets (length capture)) (is_letter letter capture) _ _ (λ x y p q. alike s reads against room p q)
+one_listing s reads against letter room capture last₁ last₂ first second a b =
+    one_told s reads against (nat_lt most_octets (length capture)) (is_letter letter capture) (RecordsTell s reads against room capture 0 1 None last₁) (RecordsTell s reads against room capture 0 1 None last₂) (last₁ ≡ None) (last₂ ≡ None) _ _ (λ x y p q. alike s reads against room p q)
     (faults_alike 0 TooLong TooLong refl, tt) (faults_alike 0 Letter Letter refl, (ends_alike 0, tt)) first second a b

@@ -65,4 +65,4 @@ module _ {V A : Type 0} (W : Type 0) (g : Ghosts W V) (s : Scale V) (reads : ℕ
       × ((force : Option InForce) → Stands before force
       → MatchResult r
       (λ x. (first_refusal (act_checks s reads against (length before.tally.now) force asked) ≡ None) × Stands after (after_act force asked) × Answered force x)
-      (λ fault. Faults at (length before.tally.now) force asked fault × Stands after force))
+      (λ fault. Faults at (length before.tally.now) force asked fault × Stands after force × (after.tally.now ≡ before.tally.now)))

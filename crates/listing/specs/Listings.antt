@@ -8,7 +8,8 @@ use Rattle.block.specs.Refusals.{Check, first_refusal, if_refuse}
 use Rattle.block.specs.Sizes.{block_octets}
 use Rattle.code.specs.Columns.{order_r}
 use Rattle.weighing.specs.Scales.{Scale}
-use Rattle.search.specs.Weights.{Nearest, weight}
+use Rattle.search.specs.Weights.{Nearest, entry_sums, weight}
+use Rattle.search.specs.declared.Entry.{Entry}
 use Rattle.sheet.specs.Books.{Book, book_sums, empty, noted, unlawful}
 use Rattle.sheet.specs.Calls.{open_checks, take_checks}
 use Rattle.listing.specs.Captures.{Asked, acts, is_letter, layout, most_octets, record_checks, to_decode, to_open, to_take, to_wipe}
@@ -109,20 +110,29 @@ module _ {V A : Type 0} (s : Scale V) (reads : ℕ → Option A) (against : A �
           → first_refusal (act_checks force act) ≡ Some number → ActFault at act (first_unlawful reads act) number fault
           → RecordTells r at force (act ∷ more) force (a_fault r fault ∷ [])
 
-    -- What is told from a place on, where r records were read whole before it and this is in force: a record that passes its tests
-    -- is read and counts; at one that does not, reading stops; and at the capture's end.
-    pub data RecordsTell (capture : List ℕ) : (r place : ℕ) → Option InForce → List (Told V) → Type 0 where
-      read : {r place : ℕ} {force behind : Option InForce} {lines rest : List (Told V)}
+    -- What is told from a place on, where r records were read whole before it and this is in force, and what is in force at last: a
+    -- record that passes its tests is read and counts; at one that does not, reading stops; and at the capture's end.
+    pub data RecordsTell (capture : List ℕ) : (r place : ℕ) → Option InForce → Option InForce → List (Told V) → Type 0 where
+      read : {r place : ℕ} {force behind last : Option InForce} {lines rest : List (Told V)}
           → place < length capture → first_refusal (record_checks capture place) ≡ None
           → RecordTells (suc r) (layout capture place) force (acts capture place) behind lines
-          → RecordsTell capture (suc r) (layout capture place).end behind rest → RecordsTell capture r place force (lines ++ rest)
+          → RecordsTell capture (suc r) (layout capture place).end behind last rest → RecordsTell capture r place force last (lines ++ rest)
       stopped : {r place number : ℕ} {force : Option InForce} → place < length capture → first_refusal (record_checks capture place) ≡ Some number
-          → RecordsTell capture r place force (a_fault (suc r) (record_fault place number) ∷ the_end r ∷ [])
-      ended : {r place : ℕ} {force : Option InForce} → length capture ≤ place → RecordsTell capture r place force (the_end r ∷ [])
+          → RecordsTell capture r place force force (a_fault (suc r) (record_fault place number) ∷ the_end r ∷ [])
+      ended : {r place : ℕ} {force : Option InForce} → length capture ≤ place → RecordsTell capture r place force force (the_end r ∷ [])
 
-    -- A whole listing, by the reading with this letter: one line where the capture is too long; else the letter must be known, and
-    -- the records follow it, with no sheet in force at first.
-    abbrev pub IsListing : ℕ → List ℕ → List (Told V) → Type 0
-    IsListing letter capture lines =
-        MatchBool (nat_lt most_octets (length capture)) (lines ≡ a_fault 0 TooLong ∷ [])
-        (MatchBool (is_letter letter capture) (RecordsTell capture 0 1 None lines) (lines ≡ a_fault 0 Letter ∷ the_end 0 ∷ []))
+    -- A whole listing, by the reading with this letter, with what is in force at last: one line where the capture is too long; else
+    -- the letter must be known, and the records follow it, with no sheet in force at first.
+    abbrev pub IsListing : ℕ → List ℕ → Option InForce → List (Told V) → Type 0
+    IsListing letter capture last lines =
+        MatchBool (nat_lt most_octets (length capture)) ((lines ≡ a_fault 0 TooLong ∷ []) × (last ≡ None))
+        (MatchBool (is_letter letter capture) (RecordsTell capture 0 1 None last lines)
+        ((lines ≡ a_fault 0 Letter ∷ the_end 0 ∷ []) × (last ≡ None)))
+
+  -- What a tally holds at last: where no sheet was ever in force, what it held before; else the places of the sheet in force hold the
+  -- sums of its book, and its other places are free.
+  abbrev pub TallyHolds : Option InForce → List (Entry V) → List (Entry V) → Type 0
+  TallyHolds None before after = after ≡ before
+  TallyHolds (Some sheet) before after =
+      (length after ≡ length before)
+      × ((p : ℕ) (b : Bool) → p < 32 * block_of sheet → entry_sums s after p b ≡ book_sums reads s against (32 * block_of sheet) sheet.book p b)

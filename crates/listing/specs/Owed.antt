@@ -38,41 +38,44 @@ told_first (Some line) more = tells line ∷ more
 
 module _ {V A : Type 0} (W : Type 0) (g : Ghosts W V) (s : Scale V) (reads : ℕ → Option A) (against : A → Bool → V) where
   -- what is told of the record that was read last, where these of its acts are still to run, and of the records behind it
-  pub record Records (lines : Lines W V g) (force : Option InForce) (acts : List Asked) (told : List (Told V)) : Type 0 where
+  pub record Records (lines : Lines W V g) (force : Option InForce) (acts : List Asked) (last : Option InForce) (told : List (Told V)) : Type 0 where
     pub behind : Option InForce
     pub first : List (Told V)
     pub rest : List (Told V)
     pub record_tells : RecordTells s reads against (length lines.workspace.tally.now) lines.records lines.at force acts behind first
-    pub others_tell : RecordsTell s reads against (length lines.workspace.tally.now) lines.capture.now lines.records lines.at.end behind rest
+    pub others_tell : RecordsTell s reads against (length lines.workspace.tally.now) lines.capture.now lines.records lines.at.end behind last rest
     pub all : told ≡ first ++ rest
 
-  abbrev pub OwesAt : Stage → Lines W V g → Option InForce → List (Told V) → Type 0
-  OwesAt TooLong lines force told = told ≡ a_fault 0 too_long ∷ []
-  OwesAt NoLetter lines force told = told ≡ a_fault 0 Letter ∷ the_end lines.records ∷ []
-  OwesAt Reading lines force told = Records lines force (left lines.acts) told
-  OwesAt Stopped lines force told = told ≡ the_end lines.records ∷ []
-  OwesAt Ended lines force told = told ≡ []
+  abbrev pub OwesAt : Stage → Lines W V g → Option InForce → Option InForce → List (Told V) → Type 0
+  OwesAt TooLong lines force last told = (told ≡ a_fault 0 too_long ∷ []) × (last ≡ force)
+  OwesAt NoLetter lines force last told = (told ≡ a_fault 0 Letter ∷ the_end lines.records ∷ []) × (last ≡ force)
+  OwesAt Reading lines force last told = Records lines force (left lines.acts) last told
+  OwesAt Stopped lines force last told = (told ≡ the_end lines.records ∷ []) × (last ≡ force)
+  OwesAt Ended lines force last told = (told ≡ []) × (last ≡ force)
 
-  -- the lines that are still to be told
-  abbrev pub Owes : Lines W V g → Option InForce → List (Told V) → Type 0
-  Owes lines force told = OwesAt lines.stage lines force told
+  -- the lines that are still to be told, where this is in force, and what is in force at last
+  abbrev pub Owes : Lines W V g → Option InForce → Option InForce → List (Told V) → Type 0
+  Owes lines force last told = OwesAt lines.stage lines force last told
 
-  -- A step from a point at which `before` was owed: either it tells a line, or none, and the others are still owed.
-  pub record Steps (before : List (Told V) → Type 0) (r : Option (Line V)) (after : Lines W V g) : Type 0 where
+  -- A step from a point with this in force, at which so much was owed: either it tells a line, or none, and the others are still owed.
+  -- A tally with no sheet in force is as it was.
+  pub record Steps (from : Option InForce) (before : Lines W V g) (owed : Option InForce → List (Told V) → Type 0) (r : Option (Line V)) (after : Lines W V g) : Type 0 where
     pub force : Option InForce
     pub stands : Stands W g s reads against after.workspace force
-    pub owes : (told : List (Told V)) → Owes after force told → before (told_first r told)
+    pub owes : (last : Option InForce) (told : List (Told V)) → Owes after force last told → owed last (told_first r told)
+    pub room : length after.workspace.tally.now ≡ length before.workspace.tally.now
+    pub untouched : force ≡ None → (from ≡ None) × (after.workspace.tally.now ≡ before.workspace.tally.now)
 
   -- a step from a listing as it stands
   abbrev pub GoesOn : Lines W V g → Lines W V g → Option (Line V) → Type 0
-  GoesOn before after r = (force : Option InForce) → Stands W g s reads against before.workspace force → Steps (Owes before force) r after
+  GoesOn before after r = (force : Option InForce) → Stands W g s reads against before.workspace force → Steps force before (Owes before force) r after
 
   -- a step that carries out an act, which stood before those that are left
   abbrev pub CarriesOn : Asked → Lines W V g → Lines W V g → Option (Line V) → Type 0
   CarriesOn asked before after r =
-      (force : Option InForce) → Stands W g s reads against before.workspace force → Steps (Records before force (asked ∷ left before.acts)) r after
+      (force : Option InForce) → Stands W g s reads against before.workspace force → Steps force before (Records before force (asked ∷ left before.acts)) r after
 
   -- What `next` gives: a line, with which the listing goes on; or none where none is owed, and then none is owed any more.
   abbrev pub Gives : Lines W V g → Option (Line V) → Lines W V g → Type 0
   Gives before r after =
-      (force : Option InForce) → Stands W g s reads against before.workspace force → MatchOption r (Owes before force [] × (after.stage ≡ Ended)) (λ line. Steps (Owes before force) (Some line) after)
+      (force : Option InForce) → Stands W g s reads against before.workspace force → Steps force before (Owes before force) r after × (r ≡ None → after.stage ≡ Ended)

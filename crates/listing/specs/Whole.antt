@@ -1,14 +1,15 @@
 -- The theorem on whole listings. Assumes nothing.
-use Rattle.std.specs.Prelude.{◌≡◌, ℕ, Bool, true, false, List, map, IfSome, Option}
-use Rattle.std.specs.Iterator.{Drains}
+use Rattle.std.specs.Prelude.{◌≡◌, ℕ, Bool, true, false, List, length, map, IfSome, None, Option}
+use Rattle.std.specs.Iterator.{YieldsThen}
 use Rattle.std.specs.Io.KnownBytes.{Appends, Keeps}
 use Rattle.std.specs.List.{AllZip}
 use Rattle.weighing.specs.Scales.{Scale}
 use Rattle.weighing.specs.declared.Weighing.{Ghosts}
+use Rattle.search.specs.declared.Entry.{Entry}
 use Rattle.listing.specs.Captures.{is_of_another}
 use Rattle.listing.specs.Faults.{fault_says}
 use Rattle.listing.specs.Lines.{Told, a_decode, a_fault, tells, the_end, whole_text}
-use Rattle.listing.specs.Listings.{IsListing}
+use Rattle.listing.specs.Listings.{InForce, IsListing, TallyHolds}
 use Rattle.listing.specs.declared.ByLetter.{ByLetter}
 use Rattle.listing.specs.declared.ByLetter.TheVariants.{Lines as ByLines, OfAnother}
 use Rattle.listing.specs.declared.Fault.{Fault}
@@ -16,14 +17,15 @@ use Rattle.listing.specs.declared.Line.{Line}
 use Rattle.listing.specs.declared.Lines.{Lines}
 
 -- Whatever octets a capture has: it is listed unless it begins with the letter of another reading, and the lines that `next` then
--- answers, one after another until it answers none, are a listing of the capture over a tally of so many places.
-module _ {V A : Type 0} (W : Type 0) (g : Ghosts W V) (s : Scale V) (reads : ℕ → Option A) (against : A → Bool → V) (letter room : ℕ) (capture : List ℕ)
-    (next : Lines W V g → Option (Line V) → Lines W V g → Type 0) where
+-- answers, one after another until it answers none, are a listing of the capture over the tally; and what the tally holds then.
+module _ {V A : Type 0} (W : Type 0) (g : Ghosts W V) (s : Scale V) (reads : ℕ → Option A) (against : A → Bool → V) (letter : ℕ) (capture : List ℕ)
+    (tally : List (Entry V)) (next : Lines W V g → Option (Line V) → Lines W V g → Type 0) where
   abbrev pub ListsCapture : ByLetter W V g → Type 0
   ListsCapture OfAnother = is_of_another letter capture ≡ true
   ListsCapture (ByLines lines) =
       (is_of_another letter capture ≡ false)
-      × ((told : List (Line V)) → Drains next lines told → IsListing s reads against room letter capture (map tells told))
+      × ((told : List (Line V)) (end : Lines W V g) → YieldsThen next lines told None end
+      → (last : Option InForce) × IsListing s reads against (length tally) letter capture last (map tells told) × TallyHolds s reads against last tally end.workspace.tally.now)
 
 -- Two lines that tell the same; of two decodes, each may name another message of the one least weight.
 pub data Alike {V : Type 0} (s : Scale V) : Told V → Told V → Type 0 where
@@ -35,7 +37,8 @@ pub data Alike {V : Type 0} (s : Scale V) : Told V → Told V → Type 0 where
 -- What a listing leaves open is only that choice: two listings of one capture are as long as one another, and alike line by line.
 abbrev pub OneListing : {V A : Type 0} → Scale V → (ℕ → Option A) → (A → Bool → V) → Type 0
 OneListing {V} s reads against =
-    (letter room : ℕ) (capture : List ℕ) (first second : List (Told V)) → IsListing s reads against room letter capture first → IsListing s reads against room letter capture second
+    (letter room : ℕ) (capture : List ℕ) (last₁ last₂ : Option InForce) (first second : List (Told V)) → IsListing s reads against room letter capture last₁ first
+    → IsListing s reads against room letter capture last₂ second
     → AllZip (Alike s) first second
 
 -- What is written of a capture: its listing, each line with a newline behind it; or nothing, where the capture is another reading's.
@@ -44,4 +47,4 @@ abbrev pub WritesListing : {V A : Type 0} → Scale V → (ℕ → Option A) →
 WritesListing s reads against letter room capture shown before after false = (is_of_another letter capture ≡ true) × Keeps before after
 WritesListing {V} s reads against letter room capture shown before after true =
     (is_of_another letter capture ≡ false)
-    × ((lines : List (Told V)) × IsListing s reads against room letter capture lines × IfSome (whole_text shown lines) (Appends before after))
+    × ((last : Option InForce) × (lines : List (Told V)) × IsListing s reads against room letter capture last lines × IfSome (whole_text shown lines) (Appends before after))

@@ -41,7 +41,7 @@ pub fn list<'a, R: Lettered>(
     tally: &'a mut [Entry<R::Value>],
     paths: &'a mut [Option<R::Value>; 32],
 ) -> ByLetter<'a, R>
-    ensures lists { ListsCapture R R.Weighing R.Weighing.scale R.Reading.reads R.Reading.against R.LETTER (length tally.old) capture.now ⟦<Lines<'a, R> as Iterator>⟧.next_gives result }
+    ensures lists { ListsCapture R R.Weighing R.Weighing.scale R.Reading.reads R.Reading.against R.LETTER capture.now tally.old ⟦<Lines<'a, R> as Iterator>⟧.next_gives result }
     ensures one { OneListing R.Weighing.scale R.Reading.reads R.Reading.against }
 {
     let Some(stage) = first_stage(capture, R::LETTER) else {

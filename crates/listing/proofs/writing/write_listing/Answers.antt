@@ -12,11 +12,6 @@ loop-line-preserved g c =
 
 pub returns-in-None : goal.returns-in-None
 returns-in-None g c =
-    let yields = rw c.into_iter-line-iterator.ensures.into_iter_gives at c.loop-line.yielded_by in (
-      c.in-Lines.ensures.lists.0,
-      (
-        map tells c.loop-line.yielded,
-        c.in-Lines.ensures.lists.1 c.loop-line.yielded (c.next.new.self, (c.loop-line.line-iterator, yields, c.in-None.ensures.steps)),
-        c.loop-line.invariant,
-      ),
-    )
+    let yields = rw c.into_iter-line-iterator.ensures.into_iter_gives at c.loop-line.yielded_by in
+    let all = c.in-Lines.ensures.lists.1 c.loop-line.yielded c.next.new.self (c.loop-line.line-iterator, yields, c.in-None.ensures.steps) in
+    (c.in-Lines.ensures.lists.0, (all.0, map tells c.loop-line.yielded, all.1, c.loop-line.invariant))
