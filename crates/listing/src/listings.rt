@@ -34,8 +34,8 @@ fn readable(capture: &[u8]) -> &[u8]
 }
 
 // The lines of a capture by a reading, unless it begins with the letter of another. Sheets are opened over the tally, which need
-// not be cleared, and which refuses an opening where it has under 32 * N entries. Tally and path weights are the listing's
-// working memory: what they hold afterwards is free.
+// not be cleared, and which refuses an opening where it has under 32 * N entries. Before the first sheet the tally stays as it is, and
+// then holds what the sheet in force has taken. Else what tally and path weights hold afterwards is free.
 pub fn list<'a, R: Lettered>(
     capture: &'a [u8],
     tally: &'a mut [Entry<R::Value>],
