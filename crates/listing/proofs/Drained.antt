@@ -13,7 +13,6 @@ use Rattle.listing.specs.Owed.{Gives, Owes, OwesAt, Records}
 use Rattle.listing.specs.declared.Fault.TheVariants.{Letter, TooLong as too_long}
 use Rattle.listing.specs.declared.Line.{Line}
 use Rattle.listing.specs.declared.Lines.{Lines}
-use Rattle.listing.specs.declared.Stage.{Stage}
 use Rattle.listing.specs.declared.Stage.TheVariants.{NoLetter, Reading, TooLong}
 use Rattle.nearest.proofs.Keeping.{run_kept}
 use Rattle.listing.proofs.Owing.{cast, owed_at, owed_others}

@@ -1,11 +1,11 @@
 -- Two listings of one capture are alike. Assumes nothing.
-use Rattle.std.proofs.Common.{◌≡◌, ℕ, suc, ◌<◌, ◌≤◌, Bool, true, false, List, [], ◌∷◌, ◌++◌, length, Some, None, Option, MatchBool, nat_lt, refl, sym, ap, ◌∙◌, subst, arith}
+use Rattle.std.proofs.Common.{◌≡◌, ℕ, suc, Bool, true, false, List, [], ◌∷◌, ◌++◌, length, None, Option, MatchBool, nat_lt, refl, sym, ap, ◌∙◌, subst, arith}
 use Rattle.std.specs.List.{AllZip}
 use Rattle.std.proofs.lemmas.Option.{none-some, same_Some}
 use Rattle.weighing.specs.Scales.{Scale}
 use Rattle.listing.specs.Captures.{Asked, is_letter, layout, most_octets}
 use Rattle.listing.specs.Faults.{fault_says, record_fault, says}
-use Rattle.listing.specs.Lines.{Told, a_fault, the_end}
+use Rattle.listing.specs.Lines.{Told}
 use Rattle.listing.specs.Listings.{ActTells, InForce, RecordTells, RecordsTell, TellsNearest, decoded, ended, no_more, performed, quiet_open, quiet_take, quiet_wipe, read, refused, stopped}
 use Rattle.listing.specs.declared.Fault.TheVariants.{Letter, TooLong}
 use Rattle.listing.specs.declared.Layout.{Layout}
