@@ -2,13 +2,10 @@
 #![tactic(auto)]
 
 use anyhow::Context;
-use listing::{PLACES, write_listing};
+use listing::{PLACES, write_by_letter};
 use search::Entry;
 use std::alloc::Global;
 use std::io::{self, BufRead, BufReader, BufWriter, Write};
-use weighing::hard::Hard;
-use weighing::soft::Soft;
-use weighing::worst::Worst;
 
 // The octets of a capture: each word is an octet in hex, or an octet, a star and how often it stands there.
 fn octets(heap: Global, words: &str) -> anyhow::Result<Vec<u8>> {
@@ -32,11 +29,8 @@ fn run(rt: &HostRuntime, sums: &mut [Entry<u32>], largest: &mut [Entry<u8>]) -> 
             .split_once(':')
             .context("a line has a name, a colon and octets")?;
         let capture = octets(rt.alloc(), words)?;
-        let capture = capture.as_slice();
         writeln!(output, "{name}:")?;
-        let _told = write_listing::<Hard, _>(capture, sums, &mut [None; 32], &mut output)?
-            || write_listing::<Soft, _>(capture, sums, &mut [None; 32], &mut output)?
-            || write_listing::<Worst, _>(capture, largest, &mut [None; 32], &mut output)?;
+        write_by_letter(capture.as_slice(), sums, largest, &mut output)?;
     }
     output.flush()?;
     Ok(())

@@ -1,12 +1,14 @@
 -- The theorem on whole listings. Assumes nothing.
-use Rattle.std.specs.Prelude.{◌≡◌, ℕ, Bool, true, false, List, length, map, IfSome, None, Option}
+use Rattle.std.specs.Prelude.{◌≡◌, ℕ, Bool, true, false, List, length, map, decimal, IfSome, Some, None, Option}
 use Rattle.std.specs.Iterator.{YieldsThen}
 use Rattle.std.specs.Io.KnownBytes.{Appends, Keeps}
 use Rattle.std.specs.List.{AllZip}
-use Rattle.weighing.specs.Scales.{Scale}
+use Rattle.weighing.specs.Hard.{hard_reads, hard_weight}
+use Rattle.weighing.specs.Levels.{level_reads, level_weight}
+use Rattle.weighing.specs.Scales.{Scale, counted, largest as largest_scale}
 use Rattle.weighing.specs.declared.Weighing.{Ghosts}
 use Rattle.search.specs.declared.Entry.{Entry}
-use Rattle.listing.specs.Captures.{is_of_another}
+use Rattle.listing.specs.Captures.{hard_letter, is_of_another, soft_letter, worst_letter}
 use Rattle.listing.specs.Faults.{fault_says}
 use Rattle.listing.specs.Lines.{Told, a_decode, a_fault, tells, the_end, whole_text}
 use Rattle.listing.specs.Listings.{InForce, IsListing, TallyHolds}
@@ -48,3 +50,13 @@ WritesListing s reads against letter room capture shown before after false = (is
 WritesListing {V} s reads against letter room capture shown before after true =
     (is_of_another letter capture ≡ false)
     × ((last : Option InForce) × (lines : List (Told V)) × IsListing s reads against room letter capture last lines × IfSome (whole_text shown lines) (Appends before after))
+
+-- the text of a weight that is a number
+abbrev pub shown_number : ℕ → Option (List ℕ)
+shown_number n = Some (decimal n)
+
+-- What is written of a capture by its letter: its listing by one of the three readings, over the tally of that reading's weights.
+pub data WritesByLetter (sums largest : ℕ) (capture : List ℕ) (before after : Option (List ℕ)) : Type 0 where
+  by_hard : WritesListing counted hard_reads hard_weight hard_letter sums capture shown_number before after true → WritesByLetter sums largest capture before after
+  by_soft : WritesListing counted level_reads level_weight soft_letter sums capture shown_number before after true → WritesByLetter sums largest capture before after
+  by_worst : WritesListing largest_scale level_reads level_weight worst_letter largest capture shown_number before after true → WritesByLetter sums largest capture before after

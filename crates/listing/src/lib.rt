@@ -19,7 +19,7 @@ pub use listings::list;
 use search::Entry;
 use sheet::{OpenRefusal, Sheet, TakeRefusal};
 use weighing::{Reading, Weighing};
-pub use writing::write_listing;
+pub use writing::{write_by_letter, write_listing};
 
 // A capture has at most this many octets.
 pub const MOST_OCTETS: usize = 32768;

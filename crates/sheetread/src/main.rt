@@ -3,12 +3,9 @@
 
 ghost use Rattle.std.specs.Prelude.{◌≤◌, length, IfOk};
 
-use listing::{MOST_OCTETS, PLACES, write_listing};
+use listing::{MOST_OCTETS, PLACES, write_by_letter};
 use search::Entry;
 use std::io::{self, BufWriter, Read, Write};
-use weighing::hard::Hard;
-use weighing::soft::Soft;
-use weighing::worst::Worst;
 
 // One octet more than a capture may have, so that one that is too long is seen to be, and nothing is read behind it.
 const INPUT: usize = MOST_OCTETS + 1;
@@ -36,12 +33,8 @@ fn run(
     largest: &mut [Entry<u8>],
 ) -> io::Result<()> {
     let octets = fill(&mut rt.stdin(), input)?;
-    let capture = &input[..octets];
     let mut output = BufWriter::new(rt.alloc(), io::writer(rt))?;
-    // one of the three finds its letter, or the first tells that there is none
-    let _told = write_listing::<Hard, _>(capture, sums, &mut [None; 32], &mut output)?
-        || write_listing::<Soft, _>(capture, sums, &mut [None; 32], &mut output)?
-        || write_listing::<Worst, _>(capture, largest, &mut [None; 32], &mut output)?;
+    write_by_letter(&input[..octets], sums, largest, &mut output)?;
     output.flush()
 }
 
