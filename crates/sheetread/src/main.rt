@@ -1,7 +1,8 @@
 // Reads a capture from standard input and prints its listing.
 #![tactic(auto)]
 
-ghost use Rattle.std.specs.Prelude.{◌≤◌, length, IfOk};
+ghost use Rattle.std.specs.Prelude.{◌<◌, ◌≤◌, length, take, IfOk};
+ghost use Rattle.std.specs.Io.KnownBytes.{Consumes, IsAtEnd};
 
 use listing::{MOST_OCTETS, PLACES, write_by_letter};
 use search::Entry;
@@ -11,8 +12,8 @@ use std::io::{self, BufWriter, Read, Write};
 const INPUT: usize = MOST_OCTETS + 1;
 
 // Fills the buffer with what comes, up to the end of the input or of the buffer; answers how many octets came.
-fn fill(input: &mut impl Read, buffer: &mut [u8]) -> io::Result<usize>
-    ensures { IfOk result (λ octets. octets ≤ length buffer.new) }
+fn fill<I: Read>(input: &mut I, buffer: &mut [u8]) -> io::Result<usize>
+    ensures { IfOk result (λ octets. (octets ≤ length buffer.new) × Consumes (I.remaining input.old) (I.remaining input.new) (take octets buffer.new) × (octets < length buffer.new → IsAtEnd (I.remaining input.new))) }
 {
     let mut filled = 0;
     while filled < buffer.len() {
