@@ -149,7 +149,7 @@ enum Stage {
     Ended,
 }
 
-// The lines of a capture, told one by one.
+// The lines of a capture, told one by one. The bounds see to it that no place and no count overflows.
 #[derive(Drop)]
 pub struct Lines<'a, W: Weighing> {
     capture: &'a [u8],
