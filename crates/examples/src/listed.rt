@@ -26,7 +26,7 @@ where
     R::Value: fmt::Display,
 {
     match list::<R>(capture, tally, paths) {
-        ByLetter::OfAnother => Ok(format!(in heap; "another's")?),
+        ByLetter::OfAnother(_) => Ok(format!(in heap; "another's")?),
         ByLetter::Lines(lines) => {
             let mut lines = lines;
             match lines.next() {

@@ -18,12 +18,13 @@ use Rattle.listing.specs.declared.Fault.{Fault}
 use Rattle.listing.specs.declared.Line.{Line}
 use Rattle.listing.specs.declared.Lines.{Lines}
 
--- Whatever octets a capture has: it is listed unless it begins with the letter of another reading, and the lines that `next` then
+-- Whatever octets a capture has: it is listed unless it begins with the letter of another reading, when the tally is handed back
+-- as it was; and the lines that `next` then
 -- answers, one after another until it answers none, are a listing of the capture over the tally; and what the tally holds then.
 module _ {V A : Type 0} (W : Type 0) (g : Ghosts W V) (s : Scale V) (reads : ℕ → Option A) (against : A → Bool → V) (letter : ℕ) (capture : List ℕ)
     (tally : List (Entry V)) (next : Lines W V g → Option (Line V) → Lines W V g → Type 0) where
   abbrev pub ListsCapture : ByLetter W V g → Type 0
-  ListsCapture OfAnother = is_of_another letter capture ≡ true
+  ListsCapture (OfAnother back) = (is_of_another letter capture ≡ true) × (back.now ≡ tally)
   ListsCapture (ByLines lines) =
       (is_of_another letter capture ≡ false)
       × ((told : List (Line V)) (end : Lines W V g) → YieldsThen next lines told None end

@@ -170,6 +170,6 @@ pub struct Lines<'a, W: Weighing> {
 pub enum ByLetter<'a, W: Weighing> {
     // its lines
     Lines(Lines<'a, W>),
-    // nothing, since the letter is that of another reading
-    OfAnother,
+    // nothing, since the letter is that of another reading: the tally is handed back
+    OfAnother(&'a mut [Entry<W::Value>]),
 }

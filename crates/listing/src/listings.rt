@@ -45,7 +45,7 @@ pub fn list<'a, R: Lettered>(
     ensures one { OneListing R.Weighing.scale R.Reading.reads R.Reading.against }
 {
     let Some(stage) = first_stage(capture, R::LETTER) else {
-        return ByLetter::OfAnother;
+        return ByLetter::OfAnother(tally);
     };
     ByLetter::Lines(Lines {
         capture: readable(capture),

@@ -23,7 +23,7 @@ where
     ensures { IfOk result (WritesListing R.Weighing.scale R.Reading.reads R.Reading.against R.LETTER (length tally.old) capture.now R.Value.Display.output (O.contents output.old) (O.contents output.new)) }
 {
     match list::<R>(capture, tally, paths) {
-        ByLetter::OfAnother => Ok(false),
+        ByLetter::OfAnother(_) => Ok(false),
         ByLetter::Lines(lines) => {
             for line in lines {
                 writeln!(output, "{line}")?;
