@@ -1,5 +1,6 @@
 -- The theorem on whole listings. Assumes nothing.
 use Rattle.std.specs.Prelude.{◌≡◌, ℕ, Bool, true, false, List, length, map, decimal, IfSome, Some, None, Option}
+use Rattle.std.specs.Borrow.{GName}
 use Rattle.std.specs.Iterator.{YieldsThen}
 use Rattle.std.specs.Io.KnownBytes.{Appends, Keeps}
 use Rattle.std.specs.List.{AllZip}
@@ -29,6 +30,11 @@ module _ {V A : Type 0} (W : Type 0) (g : Ghosts W V) (s : Scale V) (reads : ℕ
       (is_of_another letter capture ≡ false)
       × ((told : List (Line V)) (end : Lines W V g) → YieldsThen next lines told None end
       → (last : Option InForce) × IsListing s reads against (length tally) letter capture last (map tells told) × TallyHolds s reads against last tally end.workspace.tally.now)
+
+-- the tally of the answer is the one that was lent
+abbrev pub HoldsTally : {W V : Type 0} {g : Ghosts W V} → GName → ByLetter W V g → Type 0
+HoldsTally lent (OfAnother back) = back.ghost_name ≡ lent
+HoldsTally lent (ByLines lines) = lines.workspace.tally.ghost_name ≡ lent
 
 -- Two lines that tell the same; of two decodes, each may name another message of the one least weight.
 pub data Alike {V : Type 0} (s : Scale V) : Told V → Told V → Type 0 where

@@ -1,7 +1,7 @@
 // The entry call.
 ghost use Rattle.std.specs.Prelude.{◌≡◌, ◌≤◌, length};
 ghost use Rattle.listing.specs.Owed.{Begins};
-ghost use Rattle.listing.specs.Whole.{ListsCapture, OneListing};
+ghost use Rattle.listing.specs.Whole.{HoldsTally, ListsCapture, OneListing};
 
 use crate::letters::known_letters;
 use crate::{Acts, ByLetter, Layout, Lettered, Lines, MOST_OCTETS, Stage, Workspace};
@@ -34,14 +34,15 @@ fn readable(capture: &[u8]) -> &[u8]
 }
 
 // The lines of a capture by a reading, unless it begins with the letter of another. Sheets are opened over the tally, which need
-// not be cleared, and which refuses an opening where it has under 32 * N entries. Before the first sheet the tally stays as it is, and
-// then holds what the sheet in force has taken. Else what tally and path weights hold afterwards is free.
+// not be cleared, and which refuses an opening where it has under 32 * N entries. At the lines' end the tally is as it was if no sheet
+// was opened, else it holds what the sheet in force has taken; what else tally and path weights hold then is free.
 pub fn list<'a, R: Lettered>(
     capture: &'a [u8],
     tally: &'a mut [Entry<R::Value>],
     paths: &'a mut [Option<R::Value>; 32],
 ) -> ByLetter<'a, R>
     ensures lists { ListsCapture R R.Weighing R.Weighing.scale R.Reading.reads R.Reading.against R.LETTER capture.now tally.old ⟦<Lines<'a, R> as Iterator>⟧.next_gives result }
+    ensures same { HoldsTally tally.entry.ghost_name result }
     ensures one { OneListing R.Weighing.scale R.Reading.reads R.Reading.against }
 {
     let Some(stage) = first_stage(capture, R::LETTER) else {

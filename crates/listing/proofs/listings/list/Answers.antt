@@ -11,5 +11,6 @@ returns g c =
     let begins = rw c.LETTER.ensures at c.in-Some.ensures in
     record {
       lists = (begins.0, listed _ _ _ _ _ _ c.args.capture.now _ begins.1 c.readable.ensures.whole refl c.letter.ensures.end c.none.ensures refl);
+      same = refl;
       one = one_listing _ _ _;
     }
