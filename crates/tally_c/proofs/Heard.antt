@@ -1,5 +1,5 @@
 -- An opening, a take and a decode, one after another, and what they make of one call. Assumes nothing.
-use Rattle.std.proofs.Common.{◌≡◌, ℕ, ◌+◌, ◌*◌, ◌<◌, ◌≤◌, Bool, true, false, cond, not, List, [], ◌∷◌, length, MatchResult, Ok, Err, Some, None, Option, Result, refl, sym, ap, ◌∙◌, subst, rules, arith}
+use Rattle.std.proofs.Common.{◌≡◌, ℕ, ◌≤◌, Bool, true, List, [], ◌∷◌, length, MatchResult, Ok, Err, Some, None, Option, Result, refl, sym, ◌∙◌, subst, rules, arith}
 use Rattle.std.specs.Prelude.{nat_lt}
 use Rattle.block.specs.Refusals.{first_refusal, if_refuse}
 use Rattle.block.specs.Sizes.{block_octets}

@@ -1,6 +1,6 @@
 -- Naming the nearest message in one call, and what C is told of it. Assumes nothing.
-use Rattle.std.specs.Prelude.{◌≡◌, ℕ, ◌+◌, ◌*◌, ◌%◌, Bool, false, not, ◌||◌, List, [], ◌∷◌, ◌++◌, length, is_some, Some, Option, Result, MatchOption, MatchResult, ◌==◌, nat_le, nat_lt}
-use Rattle.block.specs.Refusals.{Case, Check, Performs, first_refusal, if_refuse}
+use Rattle.std.specs.Prelude.{◌≡◌, ℕ, ◌*◌, ◌%◌, Bool, false, not, ◌||◌, List, [], ◌∷◌, ◌++◌, length, is_some, Some, Option, Result, MatchResult, ◌==◌, nat_le, nat_lt}
+use Rattle.block.specs.Refusals.{Case, Check, Performs, if_refuse}
 use Rattle.block.specs.Sizes.{block_octets, size_checks}
 use Rattle.code.specs.Calls.{order_case, order_checks}
 use Rattle.weighing.specs.Scales.{Scale}
