@@ -1,0 +1,77 @@
+// A family of cases: how many were tried, and which of them differ from what they should be.
+use std::{fmt, io};
+
+// So many cases that differ are printed, and the others only counted.
+const MOST_PRINTED: u64 = 20;
+
+#[derive(Drop)]
+pub(crate) struct Family<'a> {
+    rt: &'a HostRuntime,
+    name: &'static str,
+    cases: u64,
+    differ: u64,
+}
+
+// How many cases there were, and how many differ.
+#[derive(Clone, Copy)]
+pub(crate) struct Outcome {
+    pub(crate) cases: u64,
+    pub(crate) differ: u64,
+}
+
+impl Outcome {
+    pub(crate) fn with(self, other: Outcome) -> Outcome {
+        Outcome {
+            cases: self.cases.saturating_add(other.cases),
+            differ: self.differ.saturating_add(other.differ),
+        }
+    }
+}
+
+impl fmt::Display for Outcome {
+    fn fmt<W: fmt::Write>(&self, f: &mut fmt::Formatter<W>) -> fmt::Result {
+        let cases = self.cases;
+        let differ = self.differ;
+        if differ == 0 {
+            write!(f, "{cases} cases, all as they should be")
+        } else {
+            write!(f, "{cases} cases, {differ} of them differ")
+        }
+    }
+}
+
+impl<'a> Family<'a> {
+    pub(crate) fn begin(rt: &'a HostRuntime, name: &'static str) -> Family<'a> {
+        Family {
+            rt,
+            name,
+            cases: 0,
+            differ: 0,
+        }
+    }
+
+    // Counts a case, and prints it where it differs.
+    pub(crate) fn case<D: fmt::Display + Drop>(&mut self, right: bool, what: D) -> io::Result<()> {
+        self.cases = self.cases.saturating_add(1);
+        if right {
+            return Ok(());
+        }
+        self.differ = self.differ.saturating_add(1);
+        if self.differ <= MOST_PRINTED {
+            let name = self.name;
+            println!(self.rt; "{name}: {what}")?;
+        }
+        Ok(())
+    }
+
+    // Prints how the family went.
+    pub(crate) fn end(self) -> io::Result<Outcome> {
+        let name = self.name;
+        let outcome = Outcome {
+            cases: self.cases,
+            differ: self.differ,
+        };
+        println!(self.rt; "{name}: {outcome}")?;
+        Ok(outcome)
+    }
+}
