@@ -1,0 +1,205 @@
+// A trial: a report is coded by both coders, sent over a bad channel in some parts, and taken.
+use crate::channel::{DAMAGES, Damage, hear};
+use crate::frame::{Frame, ORDER_R, Sizes, backwards, shuffled};
+use crate::hearing::{Findings, Hearing};
+use crate::random::Random;
+use crate::second::coder::{Coded, bits_of, message_of};
+use crate::second::readings::Kind;
+use crate::tried::Tried;
+use block::plan;
+use code::encode_report;
+use std::alloc::Global;
+use std::fmt;
+
+// A part of the buffer: its first octet and how many octets it has, over the buffer's end if need be.
+#[derive(Clone, Copy)]
+struct Part {
+    start: usize,
+    count: usize,
+}
+
+// How the parts of a report come.
+#[derive(Clone, Copy, Debug)]
+pub(crate) enum Coming {
+    First,
+    FirstTwice,
+    FirstAndNext,
+    FirstAndAll,
+    OverTheEnd,
+    Elsewhere,
+    AfterAWipe,
+}
+
+pub(crate) const COMINGS: [Coming; 7] = [
+    Coming::First,
+    Coming::FirstTwice,
+    Coming::FirstAndNext,
+    Coming::FirstAndAll,
+    Coming::OverTheEnd,
+    Coming::Elsewhere,
+    Coming::AfterAWipe,
+];
+
+// What a trial is made of.
+#[derive(Clone, Copy)]
+pub(crate) struct Trial {
+    pub(crate) k: usize,
+    pub(crate) damage: Damage,
+    pub(crate) coming: Coming,
+}
+
+// A trial that was made, and what was found.
+#[derive(Clone, Copy)]
+pub(crate) struct Made {
+    pub(crate) sizes: Sizes,
+    pub(crate) kind: Kind,
+    pub(crate) trial: Trial,
+    pub(crate) findings: Findings,
+}
+
+impl fmt::Display for Made {
+    fn fmt<W: fmt::Write>(&self, f: &mut fmt::Formatter<W>) -> fmt::Result {
+        let sizes = self.sizes;
+        let kind = self.kind;
+        let Trial { k, damage, coming } = self.trial;
+        let findings = self.findings;
+        write!(
+            f,
+            "{sizes}, {kind:?}, k = {k}, {damage:?}, {coming:?}: {findings}"
+        )
+    }
+}
+
+// A report as both coders have it.
+#[derive(Drop)]
+struct Sent {
+    bits: Vec<bool>,
+}
+
+impl Sent {
+    // Codes a report by both coders, and compares the buffers.
+    fn code(frame: &Frame, report: &[u8], findings: &mut Findings) -> anyhow::Result<Sent> {
+        let heap = frame.heap;
+        let mut buffer = vec![in heap; 0u8; frame.sizes.round()]?;
+        encode_report(
+            report,
+            frame.sizes.check,
+            &frame.order,
+            buffer.as_mut_slice(),
+        )?;
+        let message = message_of(heap, report, frame.sizes.check)?;
+        let second = Coded::of(heap, message.as_slice())?.buffer(heap, frame.sources.as_slice())?;
+        findings.expect("the buffer", buffer.as_slice() == second.as_slice());
+        Ok(Sent {
+            bits: bits_of(heap, second.as_slice())?,
+        })
+    }
+
+    // The bits of a part: those from its start on, and then those from the beginning.
+    fn part(&self, heap: Global, part: Part) -> anyhow::Result<Vec<bool>> {
+        let bits = self
+            .bits
+            .iter()
+            .skip(part.start.saturating_mul(8))
+            .chain(self.bits.iter())
+            .take(part.count.saturating_mul(8))
+            .copied()
+            .collect(heap)?;
+        Ok(bits)
+    }
+}
+
+impl Trial {
+    // The parts that come, in turn; the first payload has `first` octets of a round.
+    fn parts(
+        self,
+        heap: Global,
+        random: &mut Random,
+        round: usize,
+        first: usize,
+    ) -> anyhow::Result<Vec<Part>> {
+        let payload = Part {
+            start: 0,
+            count: first,
+        };
+        let some = random.below(round).saturating_add(1);
+        let start = random.below(round);
+        let parts = match self.coming {
+            Coming::First | Coming::AfterAWipe => vec![in heap; payload]?,
+            Coming::FirstTwice => vec![in heap; payload, payload]?,
+            Coming::FirstAndNext => vec![in heap;
+                payload,
+                Part {
+                    start: first.checked_rem(round).unwrap_or(0),
+                    count: some
+                },
+            ]?,
+            Coming::FirstAndAll => vec![in heap;
+                payload,
+                Part {
+                    start,
+                    count: round
+                },
+            ]?,
+            Coming::OverTheEnd => {
+                vec![in heap;
+                    Part {
+                        start: round.saturating_sub(1),
+                        count: some
+                    },
+                    payload,
+                ]?
+            }
+            Coming::Elsewhere => vec![in heap; Part { start, count: some }]?,
+        };
+        Ok(parts)
+    }
+}
+
+impl Trial {
+    // A trial at a rate.
+    pub(crate) fn draw(random: &mut Random, k: usize) -> Trial {
+        Trial {
+            k,
+            damage: DAMAGES[random.below(8) % 8],
+            coming: COMINGS[random.below(7) % 7],
+        }
+    }
+
+    // Sends a report of chance, and takes what is heard of it.
+    pub(crate) fn hear<'a, R: Tried>(
+        self,
+        frame: &'a Frame,
+        random: &mut Random,
+        findings: &mut Findings,
+    ) -> anyhow::Result<Hearing<'a, R>> {
+        let heap = frame.heap;
+        let sizes = frame.sizes;
+        let report: Vec<u8> = (0..sizes.octets).map(|_| random.octet()).collect(heap)?;
+        let sent = Sent::code(frame, report.as_slice(), findings)?;
+        let first = plan(sizes.octets, sizes.check, self.k)?;
+        let parts = self.parts(heap, random, sizes.round(), first)?;
+        let mut hearing = Hearing::<R>::open(frame)?;
+        for part in parts.iter() {
+            let bits = sent.part(heap, *part)?;
+            let symbols = hear(heap, random, R::kind(), bits.as_slice(), self.damage)?;
+            let counts = hearing.take(part.start, symbols.as_slice())?;
+            findings.expect("the count", counts);
+            if matches!(self.coming, Coming::AfterAWipe) {
+                hearing.wipe()?;
+                let counts = hearing.take(part.start, symbols.as_slice())?;
+                findings.expect("the count after a wipe", counts);
+            }
+        }
+        Ok(hearing)
+    }
+}
+
+// The columns of one of several orders: order R, order R backwards, or some other.
+pub(crate) fn draw_columns(random: &mut Random) -> [u8; 24] {
+    match random.below(4) {
+        0 => ORDER_R,
+        1 => backwards(),
+        _ => shuffled(random),
+    }
+}
