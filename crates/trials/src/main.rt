@@ -7,9 +7,12 @@ mod family;
 mod figures;
 mod frame;
 mod hearing;
+mod pattern;
 mod plans;
 mod random;
+mod refusals;
 mod second;
+mod senders;
 mod small;
 mod trial;
 mod tried;
@@ -17,10 +20,13 @@ mod tried;
 use anyhow::ensure;
 
 fn main(rt: HostRuntime) -> anyhow::Result<()> {
-    let outcome = figures::run(&rt)?
+    let decoded = figures::run(&rt)?
         .with(blocks::run(&rt)?)
-        .with(small::run(&rt)?)
-        .with(plans::run(&rt)?);
+        .with(small::run(&rt)?);
+    let others = plans::run(&rt)?
+        .with(senders::run(&rt)?)
+        .with(refusals::run(&rt)?);
+    let outcome = decoded.with(others);
     println!(rt; "in all: {outcome}")?;
     ensure!(outcome.differ == 0, "some cases differ");
     Ok(())

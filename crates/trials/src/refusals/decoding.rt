@@ -1,0 +1,150 @@
+// Decoding: what is refused where any of the four buffers is short, and what is left of each.
+use super::{Called, Check, first};
+use crate::family::{Family, Outcome};
+use crate::frame::Sizes;
+use crate::hearing::Findings;
+use crate::pattern::{
+    is_marked, is_marked_paths, is_marked_tally, is_marked_words, marked, marked_paths,
+    marked_tally, marked_words,
+};
+use crate::tried::Tried;
+use code::Order;
+use sheet::Sheet;
+use std::alloc::Global;
+use weighing::hard::Hard;
+use weighing::soft::Soft;
+use weighing::worst::Worst;
+
+// The lengths of what a decode is lent.
+#[derive(Clone, Copy)]
+struct Lent {
+    tally: usize,
+    target: usize,
+    survivors: usize,
+    paths: usize,
+}
+
+impl Lent {
+    // Just enough.
+    fn needed(sizes: Sizes) -> Lent {
+        Lent {
+            tally: sizes.places(),
+            target: sizes.block,
+            survivors: sizes.block.saturating_mul(8),
+            paths: 32,
+        }
+    }
+
+    fn is_short_of(self, needed: Lent) -> bool {
+        self.tally < needed.tally
+            || self.target < needed.target
+            || self.survivors < needed.survivors
+            || self.paths < needed.paths
+    }
+}
+
+// A length by its turn: none, one short, just enough, or some more.
+fn length(needed: usize, turn: usize) -> usize {
+    match turn % 4 {
+        0 => 0,
+        1 => needed.saturating_sub(1),
+        2 => needed,
+        _ => needed.saturating_add(3),
+    }
+}
+
+// Decodes with buffers of these lengths.
+fn try_decode<R: Tried>(
+    family: &mut Family<'_>,
+    heap: Global,
+    sheet: &Sheet<R>,
+    needed: Lent,
+    lent: Lent,
+) -> anyhow::Result<()> {
+    let tally = marked_tally::<R>(heap, lent.tally)?;
+    let mut target = marked(heap, lent.target)?;
+    let mut survivors = marked_words(heap, lent.survivors)?;
+    let mut paths = marked_paths::<R>(heap, lent.paths)?;
+    let found = sheet.decode(
+        tally.as_slice(),
+        target.as_mut_slice(),
+        survivors.as_mut_slice(),
+        paths.as_mut_slice(),
+    );
+    let due = first(&[Check {
+        holds: lent.is_short_of(needed),
+        number: 6,
+    }]);
+    let mut findings = Findings::none();
+    findings.expect(
+        "the refusal",
+        found.err().map(|refusal| refusal.number()) == due,
+    );
+    let used = match due {
+        None => needed,
+        Some(_) => Lent {
+            tally: 0,
+            target: 0,
+            survivors: 0,
+            paths: 0,
+        },
+    };
+    findings.expect("the tally", is_marked_tally::<R>(tally.as_slice(), 0));
+    findings.expect("the target", is_marked(target.as_slice(), used.target));
+    findings.expect(
+        "the survivors",
+        is_marked_words(survivors.as_slice(), used.survivors),
+    );
+    findings.expect(
+        "the path weights",
+        is_marked_paths::<R>(paths.as_slice(), used.paths),
+    );
+    findings.expect("the count", sheet.count() == 0);
+    let right = findings.are_right();
+    let numbers = [lent.tally, lent.target, lent.survivors, lent.paths];
+    family.case(
+        right,
+        Called {
+            name: "decode",
+            numbers,
+            findings,
+        },
+    )?;
+    Ok(())
+}
+
+// Each length of each buffer with each of the others.
+fn try_size<R: Tried>(family: &mut Family<'_>, heap: Global, sizes: Sizes) -> anyhow::Result<()> {
+    let needed = Lent::needed(sizes);
+    let mut own = marked_tally::<R>(heap, needed.tally)?;
+    let sheet = Sheet::<R>::open(
+        sizes.octets,
+        sizes.check,
+        Order::order_r(),
+        own.as_mut_slice(),
+    )?;
+    for turn in 0..256 {
+        let lent = Lent {
+            tally: length(needed.tally, turn),
+            target: length(needed.target, turn / 4),
+            survivors: length(needed.survivors, turn / 16),
+            paths: length(needed.paths, turn / 64),
+        };
+        try_decode::<R>(family, heap, &sheet, needed, lent)?;
+    }
+    Ok(())
+}
+
+fn try_reading<R: Tried>(family: &mut Family<'_>, heap: Global) -> anyhow::Result<()> {
+    try_size::<R>(family, heap, Sizes::of(1, 4))?;
+    try_size::<R>(family, heap, Sizes::of(3, 12))?;
+    try_size::<R>(family, heap, Sizes::of(60, 28))
+}
+
+pub(super) fn run(rt: &HostRuntime) -> anyhow::Result<Outcome> {
+    let mut family = Family::begin(rt, "refusals of decodes");
+    try_reading::<Hard>(&mut family, rt.alloc())?;
+    try_reading::<Soft>(&mut family, rt.alloc())?;
+    try_reading::<Worst>(&mut family, rt.alloc())?;
+    Ok(family.end()?)
+}
