@@ -1,7 +1,6 @@
 // Random blocks: every length of a report with every length of a check, at all rates and by all readings.
-use crate::family::{Family, Outcome};
+use crate::family::{Family, Findings, Outcome};
 use crate::frame::{CHECKS, Frame};
-use crate::hearing::Findings;
 use crate::random::Random;
 use crate::second::readings::Kind;
 use crate::trial::{Made, Trial, draw_columns};
@@ -51,15 +50,7 @@ fn try_block(
     let trial = Trial::draw(random, turn % 25);
     let findings = hear_by_kind(&frame, random, kind, trial)?;
     let sizes = frame.sizes;
-    family.case(
-        findings.are_right(),
-        Made {
-            sizes,
-            kind,
-            trial,
-            findings,
-        },
-    )?;
+    family.case(Made { sizes, kind, trial }, findings)?;
     Ok(())
 }
 

@@ -33,6 +33,7 @@ enum Fate {
     Kept,
     Turned,
     Missing,
+    Blurred,
 }
 
 impl Damage {
@@ -42,11 +43,12 @@ impl Damage {
         match self {
             Damage::Clean => Fate::Kept,
             Damage::FewTurned if draw < 8 => Fate::Turned,
-            Damage::ManyTurned | Damage::Noise if draw < 45 => Fate::Turned,
+            Damage::ManyTurned if draw < 45 => Fate::Turned,
             Damage::Missing if draw < 128 => Fate::Missing,
             Damage::Bursts if index % 256 < 50 && draw < 200 => Fate::Turned,
             Damage::Chance if draw < 100 => Fate::Turned,
             Damage::Chance if draw < 150 => Fate::Missing,
+            Damage::Noise => Fate::Blurred,
             Damage::AllTurned => Fate::Turned,
             _ => Fate::Kept,
         }
@@ -58,6 +60,16 @@ fn level(bit: bool, size: u8) -> u8 {
     if bit { size } else { size.wrapping_neg() }
 }
 
+// The octet of a level of a bit with noise; a level that would be too large is missing.
+fn blurred(random: &mut Random, bit: bool) -> u8 {
+    let signal = if bit { 60i16 } else { -60 };
+    let noise = i16::from(random.octet()) - 128;
+    i8::try_from(signal + noise)
+        .unwrap_or(0)
+        .max(-127)
+        .cast_unsigned()
+}
+
 // What a reading of this kind hears of a bit.
 fn heard(random: &mut Random, kind: Kind, bit: bool, fate: Fate) -> u8 {
     let size = random.octet() % 127 + 1;
@@ -65,9 +77,11 @@ fn heard(random: &mut Random, kind: Kind, bit: bool, fate: Fate) -> u8 {
         (Kind::Hard, Fate::Kept) => u8::from(bit),
         (Kind::Hard, Fate::Turned) => u8::from(!bit),
         (Kind::Hard, Fate::Missing) => 2,
+        (Kind::Hard, Fate::Blurred) => u8::from(bit != (random.octet() < 50)),
         (_, Fate::Kept) => level(bit, size),
         (_, Fate::Turned) => level(!bit, size),
         (_, Fate::Missing) => 0,
+        (_, Fate::Blurred) => blurred(random, bit),
     }
 }
 

@@ -4,6 +4,44 @@ use std::{fmt, io};
 // So many cases that differ are printed, and the others only counted.
 const MOST_PRINTED: u64 = 20;
 
+// The first fact that is not as it should be, if any.
+#[derive(Clone, Copy)]
+pub(crate) struct Findings {
+    differs: Option<&'static str>,
+}
+
+impl Findings {
+    pub(crate) fn none() -> Findings {
+        Findings { differs: None }
+    }
+
+    // One fact alone.
+    pub(crate) fn of(what: &'static str, holds: bool) -> Findings {
+        let mut findings = Findings::none();
+        findings.expect(what, holds);
+        findings
+    }
+
+    pub(crate) fn expect(&mut self, what: &'static str, holds: bool) {
+        if !holds && self.differs.is_none() {
+            self.differs = Some(what);
+        }
+    }
+
+    fn are_right(self) -> bool {
+        self.differs.is_none()
+    }
+}
+
+impl fmt::Display for Findings {
+    fn fmt<W: fmt::Write>(&self, f: &mut fmt::Formatter<W>) -> fmt::Result {
+        match self.differs {
+            Some(what) => write!(f, "differs in {what}"),
+            None => write!(f, "as it should be"),
+        }
+    }
+}
+
 #[derive(Drop)]
 pub(crate) struct Family<'a> {
     rt: &'a HostRuntime,
@@ -50,16 +88,33 @@ impl<'a> Family<'a> {
         }
     }
 
-    // Counts a case, and prints it where it differs.
-    pub(crate) fn case<D: fmt::Display + Drop>(&mut self, right: bool, what: D) -> io::Result<()> {
+    // Counts a case, and answers whether to print it.
+    fn count(&mut self, right: bool) -> bool {
         self.cases = self.cases.saturating_add(1);
-        if right {
-            return Ok(());
+        if !right {
+            self.differ = self.differ.saturating_add(1);
         }
-        self.differ = self.differ.saturating_add(1);
-        if self.differ <= MOST_PRINTED {
+        !right && self.differ <= MOST_PRINTED
+    }
+
+    // A case of one fact.
+    pub(crate) fn fact(&mut self, what: &'static str, right: bool) -> io::Result<()> {
+        if self.count(right) {
             let name = self.name;
-            println!(self.rt; "{name}: {what}")?;
+            println!(self.rt; "{name}: {what} differs")?;
+        }
+        Ok(())
+    }
+
+    // A case of several facts.
+    pub(crate) fn case<D: fmt::Display + Drop>(
+        &mut self,
+        what: D,
+        findings: Findings,
+    ) -> io::Result<()> {
+        if self.count(findings.are_right()) {
+            let name = self.name;
+            println!(self.rt; "{name}: {what} {findings}")?;
         }
         Ok(())
     }

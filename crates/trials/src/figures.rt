@@ -1,7 +1,7 @@
 // Worked figures: blocks of one octet with a check of four bits in order R, what is named of them, and the edges of a sheet.
-use crate::family::{Family, Outcome};
+use crate::family::{Family, Findings, Outcome};
 use crate::frame::{Frame, ORDER_R};
-use crate::hearing::{Findings, Hearing};
+use crate::hearing::Hearing;
 use crate::second::coder::{Coded, bits_of, message_of};
 use crate::second::nearest::weight_of;
 use crate::tried::Tried;
@@ -52,33 +52,33 @@ fn ties(rt: &HostRuntime) -> anyhow::Result<Outcome> {
     let symbols = turned_block(&frame)?;
     let mut hearing = Hearing::<Hard>::open(&frame)?;
     let output1: Vec<u8> = symbols.iter().copied().take(16).collect(rt.alloc())?;
-    family.case(hearing.take(0, output1.as_slice())?, "the count")?;
+    family.fact("the count", hearing.take(0, output1.as_slice())?)?;
     let named = hearing.decode()?;
     let octet = named.octets.first().copied().unwrap_or(0);
-    family.case(named.weight == 1, "the weight answered")?;
-    family.case(matches!(octet, 0x80 | 0x01 | 0x81), "the octet named")?;
+    family.fact("the weight answered", named.weight == 1)?;
+    family.fact("the octet named", matches!(octet, 0x80 | 0x01 | 0x81))?;
     let bits = bits_of(rt.alloc(), named.octets.as_slice())?;
-    family.case(
-        bits.iter().skip(8).zip(CHECK).all(|(bit, due)| *bit == due),
+    family.fact(
         "the check named",
+        bits.iter().skip(8).zip(CHECK).all(|(bit, due)| *bit == due),
     )?;
     for octet in [0x80, 0x01, 0x81] {
-        family.case(
-            weight_with_check(&hearing, octet)? == 1,
+        family.fact(
             "the weight of one of the three",
+            weight_with_check(&hearing, octet)? == 1,
         )?;
     }
     let least = hearing.least()?;
-    family.case(least.weight == 1, "the least weight of all messages")?;
-    family.case(least.messages == 3, "how many weigh least")?;
-    family.case(expect_decode(&mut hearing)?, "the second decoder")?;
+    family.fact("the least weight of all messages", least.weight == 1)?;
+    family.fact("how many weigh least", least.messages == 3)?;
+    family.case("the second decoder", expect_decode(&mut hearing)?)?;
     Ok(family.end()?)
 }
 
-fn expect_decode<R: Tried>(hearing: &mut Hearing<'_, R>) -> anyhow::Result<bool> {
+fn expect_decode<R: Tried>(hearing: &mut Hearing<'_, R>) -> anyhow::Result<Findings> {
     let mut findings = Findings::none();
     let _weight = hearing.expect_decode(&mut findings)?;
-    Ok(findings.are_right())
+    Ok(findings)
 }
 
 // The whole block, one bit turned: one message weighs 1.
@@ -87,16 +87,16 @@ fn whole_block(rt: &HostRuntime) -> anyhow::Result<Outcome> {
     let frame = frame(rt.alloc())?;
     let symbols = turned_block(&frame)?;
     let mut hearing = Hearing::<Hard>::open(&frame)?;
-    family.case(hearing.take(0, symbols.as_slice())?, "the count")?;
+    family.fact("the count", hearing.take(0, symbols.as_slice())?)?;
     let named = hearing.decode()?;
-    family.case(named.weight == 1, "the weight answered")?;
-    family.case(named.octets.first() == Some(&0x80), "the octet named")?;
-    family.case(named.check_fits, "the verdict on the check")?;
+    family.fact("the weight answered", named.weight == 1)?;
+    family.fact("the octet named", named.octets.first() == Some(&0x80))?;
+    family.fact("the verdict on the check", named.check_fits)?;
     let least = hearing.least()?;
-    family.case(least.weight == 1, "the least weight of all messages")?;
-    family.case(least.messages == 1, "how many weigh least")?;
-    family.case(least.first % 256 == 0x80, "the octet of the least")?;
-    family.case(expect_decode(&mut hearing)?, "the second decoder")?;
+    family.fact("the least weight of all messages", least.weight == 1)?;
+    family.fact("how many weigh least", least.messages == 1)?;
+    family.fact("the octet of the least", least.first % 256 == 0x80)?;
+    family.case("the second decoder", expect_decode(&mut hearing)?)?;
     Ok(family.end()?)
 }
 
@@ -110,17 +110,17 @@ fn levels(rt: &HostRuntime) -> anyhow::Result<Outcome> {
     let mut family = Family::begin(rt, "levels");
     let frame = frame(rt.alloc())?;
     let mut soft = Hearing::<Soft>::open(&frame)?;
-    family.case(soft.take(0, &LEVELS)?, "the count of the soft sheet")?;
+    family.fact("the count of the soft sheet", soft.take(0, &LEVELS)?)?;
     let named = soft.decode()?;
-    family.case(named.weight == 9, "the soft weight")?;
-    family.case(named.octets.first() == Some(&0), "the octet named")?;
-    family.case(soft.least()?.weight == 9, "the least soft weight")?;
-    family.case(expect_decode(&mut soft)?, "the second decoder, soft")?;
+    family.fact("the soft weight", named.weight == 9)?;
+    family.fact("the octet named", named.octets.first() == Some(&0))?;
+    family.fact("the least soft weight", soft.least()?.weight == 9)?;
+    family.case("the second decoder, soft", expect_decode(&mut soft)?)?;
     let mut worst = Hearing::<Worst>::open(&frame)?;
-    family.case(worst.take(0, &LEVELS)?, "the count of the worst sheet")?;
-    family.case(worst.decode()?.weight == 4, "the worst weight")?;
-    family.case(worst.least()?.weight == 4, "the least worst weight")?;
-    family.case(expect_decode(&mut worst)?, "the second decoder, worst")?;
+    family.fact("the count of the worst sheet", worst.take(0, &LEVELS)?)?;
+    family.fact("the worst weight", worst.decode()?.weight == 4)?;
+    family.fact("the least worst weight", worst.least()?.weight == 4)?;
+    family.case("the second decoder, worst", expect_decode(&mut worst)?)?;
     Ok(family.end()?)
 }
 
@@ -143,19 +143,19 @@ fn edges(rt: &HostRuntime) -> anyhow::Result<Outcome> {
     let mut family = Family::begin(rt, "edges");
     let frame = frame(rt.alloc())?;
     let mut hearing = Hearing::<Soft>::open(&frame)?;
-    family.case(hearing.refused(7, &[1; 8]).is_none(), "start 7")?;
-    family.case(hearing.refused(8, &[1; 8]) == Some(7), "start 8")?;
-    family.case(hearing.refused(0, &[1; 64]).is_none(), "64 symbols")?;
-    family.case(hearing.refused(0, &[1; 72]) == Some(8), "72 symbols")?;
-    family.case(hearing.refused(0, &[1; 4]) == Some(8), "4 symbols")?;
+    family.fact("start 7", hearing.refused(7, &[1; 8]).is_none())?;
+    family.fact("start 8", hearing.refused(8, &[1; 8]) == Some(7))?;
+    family.fact("64 symbols", hearing.refused(0, &[1; 64]).is_none())?;
+    family.fact("72 symbols", hearing.refused(0, &[1; 72]) == Some(8))?;
+    family.fact("4 symbols", hearing.refused(0, &[1; 4]) == Some(8))?;
     let lowest = [0x81; 8];
-    family.case(hearing.refused(0, &lowest).is_none(), "hex 81")?;
+    family.fact("hex 81", hearing.refused(0, &lowest).is_none())?;
     let mut symbols = [0x81; 8];
     symbols[5] = 0x80;
-    family.case(hearing.refused(0, &symbols) == Some(9), "hex 80")?;
-    family.case(
-        hearing.offer(0, &symbols) == Err(TakeRefusal::Symbol(5)),
+    family.fact("hex 80", hearing.refused(0, &symbols) == Some(9))?;
+    family.fact(
         "the index of hex 80",
+        hearing.offer(0, &symbols) == Err(TakeRefusal::Symbol(5)),
     )?;
     Ok(family.end()?)
 }
@@ -170,14 +170,14 @@ fn full_sheet(rt: &HostRuntime) -> anyhow::Result<Outcome> {
         let count = hearing.offer(0, &[1; 64]);
         all_pass = all_pass && count == Ok(turn.saturating_mul(64));
     }
-    family.case(all_pass, "one of the takes")?;
-    family.case(hearing.sheet.count() == 1_048_576, "the count")?;
-    family.case(hearing.refused(0, &[1; 8]) == Some(10), "eight more")?;
-    family.case(hearing.sheet.count() == 1_048_576, "the count after it")?;
+    family.fact("one of the takes", all_pass)?;
+    family.fact("the count", hearing.sheet.count() == 1_048_576)?;
+    family.fact("eight more", hearing.refused(0, &[1; 8]) == Some(10))?;
+    family.fact("the count after it", hearing.sheet.count() == 1_048_576)?;
     let weight = hearing.tally.first().map(|entry| entry.zero);
-    family.case(weight == Some(16384), "the first entry")?;
+    family.fact("the first entry", weight == Some(16384))?;
     hearing.wipe()?;
-    family.case(hearing.refused(0, &[1; 8]).is_none(), "eight after a wipe")?;
+    family.fact("eight after a wipe", hearing.refused(0, &[1; 8]).is_none())?;
     Ok(family.end()?)
 }
 

@@ -53,7 +53,7 @@ impl fmt::Display for Sizes {
 
 pub(crate) const CHECKS: [usize; 4] = [4, 12, 20, 28];
 
-// Order R: of each output, the columns in the order in which halves are halved.
+// Order R.
 pub(crate) const ORDER_R: [u8; 24] = [
     0, 4, 2, 6, 1, 5, 3, 7, 8, 12, 10, 14, 9, 13, 11, 15, 16, 20, 18, 22, 17, 21, 19, 23,
 ];

@@ -1,4 +1,5 @@
 // A sheet with its tally and what a decode is lent, and beside it the second decoder's book of the same takes.
+use crate::family::Findings;
 use crate::frame::Frame;
 use crate::second::all::{Least, least_of_all};
 use crate::second::book::{Book, Sums};
@@ -8,38 +9,6 @@ use crate::second::nearest::{StepSums, by_steps, find_nearest, weight_of};
 use crate::tried::Tried;
 use search::Entry;
 use sheet::Sheet;
-use std::fmt;
-
-// The first fact that is not as it should be, if any.
-#[derive(Clone, Copy)]
-pub(crate) struct Findings {
-    differs: Option<&'static str>,
-}
-
-impl Findings {
-    pub(crate) fn none() -> Findings {
-        Findings { differs: None }
-    }
-
-    pub(crate) fn expect(&mut self, what: &'static str, holds: bool) {
-        if !holds && self.differs.is_none() {
-            self.differs = Some(what);
-        }
-    }
-
-    pub(crate) fn are_right(self) -> bool {
-        self.differs.is_none()
-    }
-}
-
-impl fmt::Display for Findings {
-    fn fmt<W: fmt::Write>(&self, f: &mut fmt::Formatter<W>) -> fmt::Result {
-        match self.differs {
-            Some(what) => write!(f, "{what} is another"),
-            None => write!(f, "as it should be"),
-        }
-    }
-}
 
 #[derive(Drop)]
 pub(crate) struct Hearing<'a, R: Tried> {

@@ -1,5 +1,5 @@
 // Payload lengths and back, for every size and rate, against a reckoning by whole columns.
-use crate::family::{Family, Outcome};
+use crate::family::{Family, Findings, Outcome};
 use crate::frame::{CHECKS, Sizes};
 use block::{back, plan};
 use std::alloc::Global;
@@ -25,7 +25,7 @@ impl fmt::Display for Question {
             check,
             k,
         } = *self;
-        write!(f, "{call}({octets}, {check}, {k}) answers another")
+        write!(f, "{call}({octets}, {check}, {k})")
     }
 }
 
@@ -50,26 +50,28 @@ fn lengths(heap: Global, check: usize, k: usize) -> anyhow::Result<Vec<Option<us
 fn try_rate(family: &mut Family<'_>, heap: Global, check: usize, k: usize) -> anyhow::Result<()> {
     for octets in 1..=512 {
         let due = payload(Sizes::of(octets, check), k);
+        let findings = Findings::of("the answer", plan(octets, check, k) == Ok(due));
         family.case(
-            plan(octets, check, k) == Ok(due),
             Question {
                 call: "plan",
                 octets,
                 check,
                 k,
             },
+            findings,
         )?;
     }
     for (octets, length) in lengths(heap, check, k)?.iter().enumerate() {
         let found = back(octets, check, k).map_err(|refusal| refusal.number());
+        let findings = Findings::of("the answer", found == length.ok_or(5));
         family.case(
-            found == length.ok_or(5),
             Question {
                 call: "back",
                 octets,
                 check,
                 k,
             },
+            findings,
         )?;
     }
     Ok(())

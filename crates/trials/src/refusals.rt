@@ -7,7 +7,6 @@ mod opening;
 mod taking;
 
 use crate::family::Outcome;
-use crate::hearing::Findings;
 use std::fmt;
 
 // Octet counts about the edges of what a report may have.
@@ -74,15 +73,13 @@ fn wrong_check(check: usize) -> Check {
 struct Called {
     name: &'static str,
     numbers: [usize; 4],
-    findings: Findings,
 }
 
 impl fmt::Display for Called {
     fn fmt<W: fmt::Write>(&self, f: &mut fmt::Formatter<W>) -> fmt::Result {
         let name = self.name;
         let [a, b, c, d] = self.numbers;
-        let findings = self.findings;
-        write!(f, "{name}, {a} {b} {c} {d}: {findings}")
+        write!(f, "{name}, {a} {b} {c} {d}")
     }
 }
 

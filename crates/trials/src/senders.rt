@@ -1,7 +1,6 @@
 // Senders: passages of chance over a buffer, confirmed or not, against a plain list of octets.
-use crate::family::{Family, Outcome};
+use crate::family::{Family, Findings, Outcome};
 use crate::frame::Sizes;
-use crate::hearing::Findings;
 use crate::pattern::{begins_with, is_marked, marked};
 use crate::random::Random;
 use sender::{Passage, PassageRefusal, Sender};
@@ -198,7 +197,6 @@ struct Turn {
     sizes: Sizes,
     turn: usize,
     ending: Ending,
-    findings: Findings,
 }
 
 impl fmt::Display for Turn {
@@ -207,9 +205,8 @@ impl fmt::Display for Turn {
             sizes,
             turn,
             ending,
-            findings,
         } = *self;
-        write!(f, "{sizes}, passage {turn}, {ending:?}: {findings}")
+        write!(f, "{sizes}, passage {turn}, {ending:?}")
     }
 }
 
@@ -256,21 +253,14 @@ fn try_sender(
             _ => Ending::Confirmed,
         };
         let findings = try_passage(&mut model, &mut sender, random, ending)?;
-        let right = findings.are_right();
-        family.case(
-            right,
-            Turn {
-                sizes,
-                turn,
-                ending,
-                findings,
-            },
-        )?;
+        let turn = Turn {
+            sizes,
+            turn,
+            ending,
+        };
+        family.case(turn, findings)?;
     }
-    family.case(
-        model.confirmed_in_rounds(),
-        "the confirmed octets are others",
-    )?;
+    family.fact("the row of confirmed octets", model.confirmed_in_rounds())?;
     Ok(())
 }
 

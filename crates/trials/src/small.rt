@@ -1,7 +1,6 @@
 // Small sizes: the least weight is sought among all messages that there are.
-use crate::family::{Family, Outcome};
+use crate::family::{Family, Findings, Outcome};
 use crate::frame::Frame;
-use crate::hearing::Findings;
 use crate::random::Random;
 use crate::trial::{Made, Trial, draw_columns};
 use crate::tried::Tried;
@@ -28,15 +27,7 @@ fn try_size<R: Tried>(
         findings.expect("the least weight of all messages", least.weight == weight);
         let sizes = frame.sizes;
         let kind = R::kind();
-        family.case(
-            findings.are_right(),
-            Made {
-                sizes,
-                kind,
-                trial,
-                findings,
-            },
-        )?;
+        family.case(Made { sizes, kind, trial }, findings)?;
     }
     Ok(())
 }

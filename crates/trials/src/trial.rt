@@ -1,7 +1,8 @@
 // A trial: a report is coded by both coders, sent over a bad channel in some parts, and taken.
 use crate::channel::{DAMAGES, Damage, hear};
+use crate::family::Findings;
 use crate::frame::{Frame, ORDER_R, Sizes, backwards, shuffled};
-use crate::hearing::{Findings, Hearing};
+use crate::hearing::Hearing;
 use crate::random::Random;
 use crate::second::coder::{Coded, bits_of, message_of};
 use crate::second::readings::Kind;
@@ -27,16 +28,18 @@ pub(crate) enum Coming {
     FirstAndAll,
     OverTheEnd,
     Elsewhere,
+    InPieces,
     AfterAWipe,
 }
 
-pub(crate) const COMINGS: [Coming; 7] = [
+pub(crate) const COMINGS: [Coming; 8] = [
     Coming::First,
     Coming::FirstTwice,
     Coming::FirstAndNext,
     Coming::FirstAndAll,
     Coming::OverTheEnd,
     Coming::Elsewhere,
+    Coming::InPieces,
     Coming::AfterAWipe,
 ];
 
@@ -48,13 +51,12 @@ pub(crate) struct Trial {
     pub(crate) coming: Coming,
 }
 
-// A trial that was made, and what was found.
+// A trial that was made.
 #[derive(Clone, Copy)]
 pub(crate) struct Made {
     pub(crate) sizes: Sizes,
     pub(crate) kind: Kind,
     pub(crate) trial: Trial,
-    pub(crate) findings: Findings,
 }
 
 impl fmt::Display for Made {
@@ -62,11 +64,7 @@ impl fmt::Display for Made {
         let sizes = self.sizes;
         let kind = self.kind;
         let Trial { k, damage, coming } = self.trial;
-        let findings = self.findings;
-        write!(
-            f,
-            "{sizes}, {kind:?}, k = {k}, {damage:?}, {coming:?}: {findings}"
-        )
+        write!(f, "{sizes}, {kind:?}, k = {k}, {damage:?}, {coming:?}")
     }
 }
 
@@ -107,6 +105,15 @@ impl Sent {
             .collect(heap)?;
         Ok(bits)
     }
+}
+
+// All octets of a round in pieces of one length; the last may run over the end.
+fn pieces(heap: Global, round: usize, count: usize) -> anyhow::Result<Vec<Part>> {
+    let pieces = (0..round)
+        .step_by(count.max(1))
+        .map(|start| Part { start, count })
+        .collect(heap)?;
+    Ok(pieces)
 }
 
 impl Trial {
@@ -151,22 +158,40 @@ impl Trial {
                 ]?
             }
             Coming::Elsewhere => vec![in heap; Part { start, count: some }]?,
+            Coming::InPieces => pieces(heap, round, round / 5 + 1)?,
         };
         Ok(parts)
     }
-}
 
-impl Trial {
     // A trial at a rate.
     pub(crate) fn draw(random: &mut Random, k: usize) -> Trial {
         Trial {
             k,
             damage: DAMAGES[random.below(8) % 8],
-            coming: COMINGS[random.below(7) % 7],
+            coming: COMINGS[random.below(8) % 8],
         }
     }
 
-    // Sends a report of chance, and takes what is heard of it.
+    // Takes symbols, and again after a wipe where the trial has one.
+    fn take<R: Tried>(
+        self,
+        hearing: &mut Hearing<'_, R>,
+        start: usize,
+        symbols: &[u8],
+        findings: &mut Findings,
+    ) -> anyhow::Result<()> {
+        let counts = hearing.take(start, symbols)?;
+        findings.expect("the count", counts);
+        if matches!(self.coming, Coming::AfterAWipe) {
+            hearing.wipe()?;
+            let counts = hearing.take(start, symbols)?;
+            findings.expect("the count after a wipe", counts);
+        }
+        Ok(())
+    }
+
+    // Sends a report of chance, and takes what is heard of it, part after part. From one part to the next the weight does not
+    // fall.
     pub(crate) fn hear<'a, R: Tried>(
         self,
         frame: &'a Frame,
@@ -180,16 +205,14 @@ impl Trial {
         let first = plan(sizes.octets, sizes.check, self.k)?;
         let parts = self.parts(heap, random, sizes.round(), first)?;
         let mut hearing = Hearing::<R>::open(frame)?;
+        let mut weight = 0;
         for part in parts.iter() {
             let bits = sent.part(heap, *part)?;
             let symbols = hear(heap, random, R::kind(), bits.as_slice(), self.damage)?;
-            let counts = hearing.take(part.start, symbols.as_slice())?;
-            findings.expect("the count", counts);
-            if matches!(self.coming, Coming::AfterAWipe) {
-                hearing.wipe()?;
-                let counts = hearing.take(part.start, symbols.as_slice())?;
-                findings.expect("the count after a wipe", counts);
-            }
+            self.take(&mut hearing, part.start, symbols.as_slice(), findings)?;
+            let now = hearing.decode()?.weight;
+            findings.expect("the growth of the weight", weight <= now);
+            weight = now;
         }
         Ok(hearing)
     }

@@ -1,8 +1,7 @@
 // The check field, encoding and direct reading: what they refuse, what they answer, and what they leave.
 use super::{CHECKS, Called, Check, first, wrong_check, wrong_octets};
-use crate::family::{Family, Outcome};
+use crate::family::{Family, Findings, Outcome};
 use crate::frame::{Frame, ORDER_R, Sizes};
-use crate::hearing::Findings;
 use crate::pattern::{begins_with, is_marked, marked};
 use crate::random::Random;
 use crate::second::coder::{Coded, bits_of, message_of, octets_of};
@@ -50,15 +49,13 @@ fn try_check(
         }
         Err(refusal) => findings.expect("the refusal", due == Some(refusal.number())),
     }
-    let right = findings.are_right();
     let numbers = [octets, check, 0, 0];
     family.case(
-        right,
         Called {
             name: "a check",
             numbers,
-            findings,
         },
+        findings,
     )?;
     Ok(())
 }
@@ -104,15 +101,13 @@ fn try_encode(
             );
         }
     }
-    let right = findings.are_right();
     let numbers = [octets, check, room, 0];
     family.case(
-        right,
         Called {
             name: "encode",
             numbers,
-            findings,
         },
+        findings,
     )?;
     Ok(())
 }
@@ -184,15 +179,13 @@ fn try_peek(
             );
         }
     }
-    let right = findings.are_right();
     let numbers = [octets, check, received.len(), room];
     family.case(
-        right,
         Called {
             name: "peek",
             numbers,
-            findings,
         },
+        findings,
     )?;
     Ok(())
 }

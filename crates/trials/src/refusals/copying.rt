@@ -1,8 +1,7 @@
 // A passage's copy: what it refuses at each edge of the count and of both buffers, and what it leaves.
 use super::Called;
-use crate::family::{Family, Outcome};
+use crate::family::{Family, Findings, Outcome};
 use crate::frame::Sizes;
-use crate::hearing::Findings;
 use crate::random::Random;
 use crate::senders::{Asked, Model};
 use sender::{Passage, Sender};
@@ -20,15 +19,13 @@ fn try_copy(
     let _due = model.copy(&mut passage, before, asked, &mut findings)?;
     passage.give_up();
     findings.expect("the cursor", sender.cursor == before);
-    let right = findings.are_right();
     let numbers = [asked.count, asked.buffer, asked.target, before];
     family.case(
-        right,
         Called {
             name: "copy",
             numbers,
-            findings,
         },
+        findings,
     )?;
     Ok(())
 }
@@ -49,15 +46,13 @@ fn try_confirmed(
     let _due = model.copy(&mut passage, before, asked, &mut findings)?;
     passage.confirm();
     findings.expect("the cursor", sender.cursor == before);
-    let right = findings.are_right();
     let numbers = [asked.count, asked.buffer, asked.target, before];
     family.case(
-        right,
         Called {
             name: "confirmed copy",
             numbers,
-            findings,
         },
+        findings,
     )?;
     Ok(())
 }

@@ -1,8 +1,7 @@
 // Decoding: what is refused where any of the four buffers is short, and what is left of each.
 use super::{Called, Check, first};
-use crate::family::{Family, Outcome};
+use crate::family::{Family, Findings, Outcome};
 use crate::frame::Sizes;
-use crate::hearing::Findings;
 use crate::pattern::{
     is_marked, is_marked_paths, is_marked_tally, is_marked_words, marked, marked_paths,
     marked_tally, marked_words,
@@ -100,15 +99,13 @@ fn try_decode<R: Tried>(
         is_marked_paths::<R>(paths.as_slice(), used.paths),
     );
     findings.expect("the count", sheet.count() == 0);
-    let right = findings.are_right();
     let numbers = [lent.tally, lent.target, lent.survivors, lent.paths];
     family.case(
-        right,
         Called {
             name: "decode",
             numbers,
-            findings,
         },
+        findings,
     )?;
     Ok(())
 }

@@ -1,8 +1,7 @@
 // Calls that are handed numbers alone: orders, payload lengths and back, and the making of a sender.
 use super::{CHECKS, Called, Check, OCTETS, first, wrong_check, wrong_octets};
-use crate::family::{Family, Outcome};
+use crate::family::{Family, Findings, Outcome};
 use crate::frame::{ORDER_R, Sizes, shuffled};
-use crate::hearing::Findings;
 use crate::plans::payload;
 use crate::random::Random;
 use block::{back, plan};
@@ -29,17 +28,8 @@ fn case(
     found: Option<u8>,
     due: Option<u8>,
 ) -> anyhow::Result<()> {
-    let mut findings = Findings::none();
-    findings.expect("the refusal", found == due);
-    let right = findings.are_right();
-    family.case(
-        right,
-        Called {
-            name,
-            numbers,
-            findings,
-        },
-    )?;
+    let findings = Findings::of("the refusal", found == due);
+    family.case(Called { name, numbers }, findings)?;
     Ok(())
 }
 

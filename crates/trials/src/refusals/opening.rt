@@ -1,8 +1,7 @@
 // Opening and wiping a sheet: what they refuse, what they clear, and what they leave.
 use super::{CHECKS, Called, Check, OCTETS, first, wrong_check, wrong_octets};
-use crate::family::{Family, Outcome};
+use crate::family::{Family, Findings, Outcome};
 use crate::frame::Sizes;
-use crate::hearing::Findings;
 use crate::pattern::{is_marked_tally, is_zero_tally, marked_tally};
 use crate::tried::Tried;
 use code::Order;
@@ -53,15 +52,13 @@ fn try_open<R: Tried>(
             );
         }
     }
-    let right = findings.are_right();
     let numbers = [octets, check, entries, 0];
     family.case(
-        right,
         Called {
             name: "open",
             numbers,
-            findings,
         },
+        findings,
     )?;
     Ok(())
 }
@@ -122,15 +119,13 @@ fn try_wipe<R: Tried>(
         "what stays",
         is_marked_tally::<R>(tally.as_slice(), cleared),
     );
-    let right = findings.are_right();
     let numbers = [octets, check, entries, 0];
     family.case(
-        right,
         Called {
             name: "wipe",
             numbers,
-            findings,
         },
+        findings,
     )?;
     Ok(())
 }

@@ -1,7 +1,6 @@
 // Taking symbols: what is refused at each edge of tally, start, count, fullness and symbols, and what is left.
 use super::{Called, Check, first};
-use crate::family::{Family, Outcome};
-use crate::hearing::Findings;
+use crate::family::{Family, Findings, Outcome};
 use crate::pattern::marked_tally;
 use crate::second::book::{Book, Sums};
 use crate::tried::Tried;
@@ -96,7 +95,7 @@ fn sums_of<R: Tried>(heap: Global, tally: &[Entry<R::Value>]) -> Result<Vec<Sums
 }
 
 impl<R: Tried> Taken<R> {
-    // A sheet that has taken so many symbols.
+    // A sheet that has taken so many symbols: a multiple of a round, or eight less.
     fn filled(heap: Global, symbols: usize) -> anyhow::Result<Taken<R>> {
         let mut tally = marked_tally::<R>(heap, ENTRIES)?;
         let mut sheet = Sheet::<R>::open(1, 4, Order::order_r(), tally.as_mut_slice())?;
@@ -160,58 +159,68 @@ impl<R: Tried> Taken<R> {
     }
 }
 
-// Takes of one count on a sheet that has taken so many symbols; it is made anew after each that is performed.
-fn try_count<R: Tried>(
+// Takes that differ in their symbols alone. The sheet is made anew after each that is performed.
+fn try_symbols<R: Tried>(
     family: &mut Family<'_>,
-    heap: Global,
-    taken: usize,
+    sheet: &mut Taken<R>,
     entries: usize,
+    start: usize,
     count: usize,
 ) -> anyhow::Result<()> {
-    let mut sheet = Taken::<R>::filled(heap, taken)?;
+    let taken = sheet.sheet.count();
     let last = count.saturating_sub(1);
-    for start in [0, 3, 7, 8, 9, usize::MAX] {
-        for unlawful in [
-            [None, None],
-            [Some(0), None],
-            [Some(last), None],
-            [Some(last), Some(2)],
-        ] {
-            let offer = Offer {
-                entries,
-                start,
-                count,
-                unlawful,
-            };
-            let mut findings = Findings::none();
-            if sheet.try_offer(offer, &mut findings)? {
-                sheet = Taken::<R>::filled(heap, taken)?;
-            }
-            let right = findings.are_right();
-            let numbers = [taken, entries, start, count];
-            family.case(
-                right,
-                Called {
-                    name: "take",
-                    numbers,
-                    findings,
-                },
-            )?;
+    for unlawful in [
+        [None, None],
+        [Some(0), None],
+        [Some(last), None],
+        [Some(last), Some(2)],
+    ] {
+        let offer = Offer {
+            entries,
+            start,
+            count,
+            unlawful,
+        };
+        let mut findings = Findings::none();
+        if sheet.try_offer(offer, &mut findings)? {
+            *sheet = Taken::<R>::filled(sheet.heap, taken)?;
         }
+        let numbers = [taken, entries, start, count];
+        family.case(
+            Called {
+                name: "take",
+                numbers,
+            },
+            findings,
+        )?;
     }
     Ok(())
 }
 
-// All takes that are tried on a sheet that has taken so many symbols.
+// Takes of one count, from each start.
+fn try_count<R: Tried>(
+    family: &mut Family<'_>,
+    sheet: &mut Taken<R>,
+    entries: usize,
+    count: usize,
+) -> anyhow::Result<()> {
+    for start in [0, 3, 7, 8, 9, usize::MAX] {
+        try_symbols::<R>(family, sheet, entries, start, count)?;
+    }
+    Ok(())
+}
+
+// All takes that are tried on a sheet that has taken so many symbols, over tallies of these lengths.
 fn try_takes<R: Tried>(
     family: &mut Family<'_>,
     heap: Global,
     taken: usize,
     tallies: &[usize],
 ) -> anyhow::Result<()> {
+    let mut sheet = Taken::<R>::filled(heap, taken)?;
     for entries in tallies {
         for count in [0, 4, 7, 8, 9, 56, 63, 64, 65, 72] {
-            try_count::<R>(family, heap, taken, *entries, count)?;
+            try_count::<R>(family, &mut sheet, *entries, count)?;
         }
     }
     Ok(())
