@@ -106,6 +106,39 @@ pub folded_bits_more : {A : Type 0} (f : A → Bool → A) (a : A) (octets : Lis
 folded_bits_more f a octets p =
     ap (fold f a) (map-range_with_len_more (bit_at octets) 0 p p (omega arith)) ∙ fold_push f a (bits_of octets p) (bit_at octets p)
 
+-- bit k of an octet that stands alone
+pub bit_alone : (o k : ℕ) → k < 8 → bit_at (o ∷ []) k ≡ bit k o
+unfolding bit_at
+bit_alone o k h =
+    let low : k % 8 ≡ k = omega arith in
+    let first : k / 8 ≡ 0 = omega arith in
+    λ i. bit (low i) (get_or (o ∷ []) (first i) 0)
+
+-- bit k of octet b, by that octet alone
+bit_in_octet : (octets : List ℕ) (b k : ℕ) → k < 8 → bit_at octets (8 * b + k) ≡ bit_at (get_or octets b 0 ∷ []) k
+unfolding bit_at
+bit_in_octet octets b k h =
+    let low : (8 * b + k) % 8 ≡ k = omega arith in
+    let there : (8 * b + k) / 8 ≡ b = omega arith in
+    (λ i. bit (low i) (get_or octets (there i) 0)) ∙ sym (bit_alone (get_or octets b 0) k h)
+
+-- a fold over the bits of octets, k bits of one octet further on
+pub folded_octet : {A : Type 0} (f : A → Bool → A) (a : A) (octets : List ℕ) (b k : ℕ) → k ≤ 8
+    → fold f (fold f a (bits_of octets (8 * b))) (bits_of (get_or octets b 0 ∷ []) k) ≡ fold f a (bits_of octets (8 * b + k))
+folded_octet f a octets b zero h =
+    let same : 8 * b ≡ 8 * b + 0 = omega arith in
+    ap (λ n. fold f a (bits_of octets n)) same
+folded_octet f a octets b (suc k) h =
+    let start = fold f a (bits_of octets (8 * b)) in
+    let here = get_or octets b 0 ∷ [] in
+    let one : suc k ≡ k + 1 = omega arith in
+    let next : 8 * b + k + 1 ≡ 8 * b + suc k = omega arith in
+    ap (λ n. fold f start (bits_of here n)) one
+    ∙ folded_bits_more f start here k
+    ∙ (λ i. f (folded_octet f a octets b k (omega arith) i) (sym (bit_in_octet octets b k (omega arith)) i))
+    ∙ sym (folded_bits_more f a octets (8 * b + k))
+    ∙ ap (λ n. fold f a (bits_of octets n)) next
+
 -- an octet is fixed by its eight bits
 pub octet_same : (f g : ℕ → Bool) → ((i : ℕ) → i < 8 → f i ≡ g i) → octet_of f ≡ octet_of g
 unfolding octet_of

@@ -1,5 +1,5 @@
 // The check field: the remainder of the report's bits, times x^L, by the polynomial of the check's length L.
-ghost use Rattle.std.specs.Prelude.{◌≡◌, ◌+◌, ◌*◌, ◌^◌, ◌<◌, length, if◌then◌else◌, Decides};
+ghost use Rattle.std.specs.Prelude.{◌≡◌, ◌+◌, ◌*◌, ◌^◌, ◌<◌, [], ◌∷◌, fold, length, if◌then◌else◌, Decides};
 ghost use Rattle.block.specs.Bits.{bits_of};
 ghost use Rattle.block.specs.Checks.{CheckFits, check_of, extended, polynomial, reduced};
 ghost use Rattle.block.specs.Refusals.{Answers};
@@ -45,14 +45,27 @@ impl Size {
         self.reduce((2 * r) ^ self.incoming(bit))
     }
 
+    // The check once the eight bits of an octet follow those whose check is `r`. A `for` over positions here and below: the
+    // closure of a fold would repeat the clauses of what it calls.
+    fn extend_octet(self, r: u32, octet: u8) -> u32
+        requires { r < 2 ^ self.check }
+        ensures value { result ≡ fold (extended self.check) r (bits_of (octet ∷ []) 8) }
+        ensures below { result < 2 ^ self.check }
+    {
+        let mut r = r;
+        for i in 0..8 {
+            r = self.extend(r, bit_of(u32::from(octet), i));
+        }
+        r
+    }
+
     // The check of the report that stands at the front of `octets`; what is missing there counts as 0.
     pub fn check_over(self, octets: &[u8]) -> u32
         ensures { result ≡ check_of self.check (bits_of octets.now (8 * self.octets)) }
     {
         let mut r = 0;
-        // A `for` over positions: the closure of a fold would repeat the clauses of `extend`.
-        for p in 0..8 * self.octets {
-            r = self.extend(r, bit_at(octets, p));
+        for b in 0..self.octets {
+            r = self.extend_octet(r, octets.get(b).copied().unwrap_or(0));
         }
         r
     }
