@@ -1,10 +1,8 @@
 -- Laws of bits, checks and payload lengths. Assumes nothing.
-use Rattle.std.proofs.Common.{rules, MatchOption, Option, Some, None, ◌≡◌, ℕ, zero, suc, ◌+◌, ◌*◌, ◌/◌, ◌%◌, ◌^◌, ◌<◌, ◌≤◌, Bool, true, false, cond, not, ◌||◌, eqb, List, [], ◌∷◌, ◌++◌, map, length, get_or, take, drop, set, fold, sym, refl, ap, ◌∙◌, inl, inr, mul-le-mul_right, add-mul, zero-mul, arith, lit<, pow_mono}
+use Rattle.std.proofs.Common.{rules, MatchOption, Option, Some, None, ◌≡◌, ℕ, zero, suc, ◌+◌, ◌*◌, ◌/◌, ◌%◌, ◌^◌, ◌<◌, ◌≤◌, Bool, true, false, cond, not, ◌||◌, eqb, List, [], ◌∷◌, get_or, take, fold, sym, refl, ap, ◌∙◌, inl, inr, mul-le-mul_right, add-mul, zero-mul, arith, lit<, pow_mono}
 use native.Mathlib.Nat.{div-eq_of_lt}
 use lib.Bits.{bit_xor}
-use Rattle.std.specs.List.{range_with_len}
-use Rattle.std.proofs.lemmas.List.FromFn.{get_or-map-range_with_len, length-map-range_with_len, map-range_with_len_more, take-map-range_with_len}
-use Rattle.std.proofs.lemmas.List.{append_assoc, drop_more, set_at}
+use Rattle.std.proofs.lemmas.List.FromFn.{get_or-map-range_with_len, map-range_with_len_more, take-map-range_with_len}
 use Rattle.std.proofs.lemmas.List.Sums.{fold_push}
 use Rattle.std.proofs.lemmas.Nat.{shr_split, shr_below, xor_shr, xor_lt, pow_pos, pow-add, mod_below}
 use Rattle.std.proofs.lemmas.Bool.{cond_both, eqb-true, eqb-false, eq-eqb, or_cases, or_left, or_right, or_from, ne_eqb, not-true, cases_order, cases_eq}
@@ -115,7 +113,7 @@ bit_alone o k h =
     λ i. bit (low i) (get_or (o ∷ []) (first i) 0)
 
 -- bit k of octet b, by that octet alone
-bit_in_octet : (octets : List ℕ) (b k : ℕ) → k < 8 → bit_at octets (8 * b + k) ≡ bit_at (get_or octets b 0 ∷ []) k
+pub bit_in_octet : (octets : List ℕ) (b k : ℕ) → k < 8 → bit_at octets (8 * b + k) ≡ bit_at (get_or octets b 0 ∷ []) k
 unfolding bit_at
 bit_in_octet octets b k h =
     let low : (8 * b + k) % 8 ≡ k = omega arith in
@@ -145,14 +143,6 @@ unfolding octet_of
 octet_same f g e =
     let p : (i : ℕ) → i < 8 → value (f i) ≡ value (g i) = λ i h. ap value (e i h) in
     omega (arith, p 0 (lit< tt), p 1 (lit< tt), p 2 (lit< tt), p 3 (lit< tt), p 4 (lit< tt), p 5 (lit< tt), p 6 (lit< tt), p 7 (lit< tt))
-
--- a write behind the octets that stand already
-pub front_more : (f : ℕ → ℕ) (before : List ℕ) (b : ℕ) → b < length before → set (map f (range_with_len 0 b) ++ drop b before) b (f b) ≡ map f (range_with_len 0 (b + 1)) ++ drop (b + 1) before
-front_more f before b h =
-    let front = map f (range_with_len 0 b) in
-    ap (λ back. set (front ++ back) b (f b)) (drop_more before b 0 h)
-    ∙ set_at front (get_or before b 0) (drop (b + 1) before) (f b) b (length-map-range_with_len f 0 b)
-    ∙ sym (ap (λ xs. xs ++ drop (b + 1) before) (map-range_with_len_more f 0 b b (omega arith)) ∙ append_assoc front (f b ∷ []) (drop (b + 1) before))
 
 -- whether a check fits, read off the octets that hold message and check
 module _ (octets : List ℕ) (size check : ℕ) where

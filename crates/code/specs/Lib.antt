@@ -1,4 +1,5 @@
 pub mod Register
+pub mod Rows
 pub mod Columns
 pub mod Places
 pub mod Calls

@@ -8,11 +8,11 @@ ghost use Rattle.code.specs.Register.{coded};
 
 use crate::coded::CodedBlock;
 use crate::message::Message;
-use crate::{EncodeRefusal, Order, Outputs};
+use crate::{EncodeRefusal, Order, Row};
 use block::Size;
 
-// The steps of the longest block.
-const MOST_STEPS: usize = 4128;
+// The octets of the longest block.
+const MOST_OCTETS: usize = 516;
 
 impl EncodeRefusal {
     pub fn number(self) -> u8
@@ -32,10 +32,10 @@ fn encode_block(size: Size, report: &[u8], order: &Order, buffer: &mut [u8])
     ensures { buffer.new ≡ buffer_of order.now.columns (block_octets size.octets size.check) (coded (report_message report.now size.octets size.check)) }
 {
     let n = size.block_octets();
-    let mut steps = [Outputs::default(); MOST_STEPS];
-    let steps = &mut steps[..8 * n];
-    Message::new(size, report).code(steps);
-    CodedBlock { order, n, steps }.fill(buffer);
+    let mut rows = [Row::default(); MOST_OCTETS];
+    let rows = &mut rows[..n];
+    Message::new(size, report).code(rows);
+    CodedBlock { order, n, rows }.fill(buffer);
 }
 
 // Encodes a report into the first 4 * N octets of the buffer.

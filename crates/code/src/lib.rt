@@ -9,6 +9,7 @@ mod encode;
 mod message;
 mod orders;
 mod peek;
+mod rows;
 mod table;
 mod trellis;
 
@@ -38,6 +39,15 @@ pub struct Step {
 pub struct Register {
     state: u8,
     ghost cells: { state < 16 },
+}
+
+// What the register answers to the eight bits of an octet: bit i of each output is that of the step of bit i.
+#[derive(Clone, Copy, Default)]
+pub(crate) struct Row {
+    v1: u8,
+    v2: u8,
+    v3: u8,
+    v4: u8,
 }
 
 // Why no column order can be made, and the number of the refusal.

@@ -1,12 +1,14 @@
 // The message that a report is coded as: its own bits, then those of its check.
-ghost use Rattle.std.specs.Prelude.{◌≡◌, ◌+◌, ◌*◌, ◌<◌, length};
-ghost use Rattle.block.specs.Bits.{bits_of};
+ghost use Rattle.std.specs.Prelude.{◌≡◌, ℕ, ◌+◌, ◌*◌, ◌<◌, ◌≤◌, length};
+ghost use Rattle.block.specs.Bits.{bit, bits_of};
 ghost use Rattle.block.specs.Checks.{check_of, report_bit, report_message};
 ghost use Rattle.block.specs.Sizes.{block_octets};
 ghost use Rattle.code.specs.Register.{after, cells, cleared, coded, trace};
+ghost use Rattle.code.specs.Rows.{AreRows, first, steps_row};
 
-use crate::{Outputs, Register};
-use block::{Size, bit_at, bit_of};
+use crate::{Outputs, Register, Row};
+use block::{Size, bit_at, bit_of, octet};
+use std::array;
 
 // A report of this size, with its check field.
 #[derive(Clone, Copy)]
@@ -42,25 +44,61 @@ impl<'a> Message<'a> {
         }
     }
 
-    // Runs the register over the message and notes each step's outputs.
-    fn run(&self, register: &mut Register, steps: &mut [Outputs])
-        requires { (cells register.old ≡ cleared) × (length steps.old ≡ 8 * self.now.size.octets + self.now.size.check) }
-        ensures steps { steps.new ≡ trace cleared (report_message self.now.report.now self.now.size.octets self.now.size.check) }
-        ensures after { cells register.new ≡ after cleared (report_message self.now.report.now self.now.size.octets self.now.size.check) }
+    // Octet `b` of the message.
+    fn octet(&self, b: usize) -> u8
+        requires { 8 * b + 8 ≤ 8 * self.now.size.octets + self.now.size.check }
+        ensures { (i : ℕ) → i < 8 → bit i result ≡ report_bit self.now.report.now self.now.size.octets self.now.size.check (8 * b + i) }
     {
-        for (t, step) in steps.iter_mut().enumerate() {
-            *step = register.push(self.bit(t));
+        if b < self.size.octets() {
+            self.report.get(b).copied().unwrap_or(0)
+        } else {
+            octet(array::from_fn(|i| self.bit(8 * b + i)))
         }
     }
 
-    // Notes the outputs of all steps of the message's block.
-    pub(crate) fn code(&self, steps: &mut [Outputs])
-        requires { length steps.old ≡ 8 * block_octets self.now.size.octets self.now.size.check }
-        ensures { steps.new ≡ coded (report_message self.now.report.now self.now.size.octets self.now.size.check) }
+    // Runs the register over the whole octets of the message, and notes their rows.
+    fn run(&self, register: &mut Register, rows: &mut [Row])
+        requires { (cells register.old ≡ cleared) × (8 * length rows.old + 4 ≡ 8 * self.now.size.octets + self.now.size.check) }
+        ensures rows { AreRows (coded (report_message self.now.report.now self.now.size.octets self.now.size.check)) (length rows.old) rows.new }
+        ensures after { cells register.new ≡ after cleared (first (report_bit self.now.report.now self.now.size.octets self.now.size.check) (8 * length rows.old)) }
+    {
+        for (b, row) in rows.iter_mut().enumerate() {
+            *row = register.push_octet(self.octet(b));
+        }
+    }
+
+    // Runs the register over the message from bit `t` on, and notes each step's outputs.
+    fn run_bits(&self, t: usize, register: &mut Register, steps: &mut [Outputs])
+        requires { t + length steps.old ≡ 8 * self.now.size.octets + self.now.size.check }
+        ensures steps { steps.new ≡ trace (cells register.old) (first (λ i. report_bit self.now.report.now self.now.size.octets self.now.size.check (t + i)) (length steps.old)) }
+        ensures after { cells register.new ≡ after (cells register.old) (first (λ i. report_bit self.now.report.now self.now.size.octets self.now.size.check (t + i)) (length steps.old)) }
+    {
+        for (i, step) in steps.iter_mut().enumerate() {
+            *step = register.push(self.bit(t + i));
+        }
+    }
+
+    // The row of the octet behind the first `b`: the last four bits of the message, and the tail.
+    fn last_row(&self, b: usize, register: Register) -> Row
+        requires { (8 * b + 4 ≡ 8 * self.now.size.octets + self.now.size.check) × (cells register ≡ after cleared (first (report_bit self.now.report.now self.now.size.octets self.now.size.check) (8 * b))) }
+        ensures { result ≡ steps_row (coded (report_message self.now.report.now self.now.size.octets self.now.size.check)) b }
+    {
+        let mut register = register;
+        let mut steps = [Outputs::default(); 8];
+        let (own, tail) = steps.split_at_mut(4);
+        self.run_bits(8 * b, &mut register, own);
+        tail.copy_from_slice(&register.close());
+        Row::of_steps(&steps)
+    }
+
+    // Notes the rows of the message's block.
+    pub(crate) fn code(&self, rows: &mut [Row])
+        requires { length rows.old ≡ block_octets self.now.size.octets self.now.size.check }
+        ensures { AreRows (coded (report_message self.now.report.now self.now.size.octets self.now.size.check)) (block_octets self.now.size.octets self.now.size.check) rows.new }
     {
         let mut register = Register::open();
-        let (own, tail) = steps.split_at_mut(8 * self.size.octets() + self.size.check());
-        self.run(&mut register, own);
-        tail.copy_from_slice(&register.close());
+        let whole = self.size.octets() + self.size.check() / 8;
+        self.run(&mut register, &mut rows[..whole]);
+        rows[whole] = self.last_row(whole, register);
     }
 }

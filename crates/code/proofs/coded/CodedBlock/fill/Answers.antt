@@ -1,15 +1,22 @@
-use Rattle.std.proofs.Common.{ℕ, ◌+◌, ◌*◌, ◌++◌, map, drop, set, ap, ◌∙◌, arith}
-use Rattle.std.specs.List.{range_with_len}
-use Rattle.block.specs.Bits.{octet_of}
-use Rattle.block.proofs.Laws.{front_more}
-use Rattle.code.specs.Places.{place_bit}
+use Rattle.std.proofs.Common.{◌≡◌, ◌+◌, ◌*◌, ◌/◌, subst, ap, ◌∙◌, arith}
+use Rattle.code.specs.Rows.{Filled}
 use Rattle.code.proofs.coded.CodedBlock.fill.Goals as goal
 
-pub loop-b-preserved : goal.loop-b-preserved
-loop-b-preserved c =
+pub loop-index-init : goal.loop-index-init
+loop-index-init c =
     let block = c.args.self.now in
-    let f : ℕ → ℕ = λ b. octet_of (λ i. place_bit block.order.now.columns block.n block.steps.now (8 * b + i)) in
-    let b = c.loop-b.b in
-    ap (λ xs. set xs b c.octet.result) c.loop-b.invariant
-    ∙ ap (set (map f (range_with_len 0 b) ++ drop b c.args.buffer.now) b) c.octet.ensures
-    ∙ front_more f c.args.buffer.now b (omega arith)
+    let own : block.n ≡ block.n + block.n * 0 / 8 = omega arith in
+    subst (λ t. Filled block.order.now.columns block.n block.rows.now t c.fill_own.new.buffer) own c.fill_own.ensures
+
+pub fill_column-requires-clause-there : goal.fill_column-requires-clause-there
+fill_column-requires-clause-there c = c.loop-index.invariant
+
+pub loop-index-preserved : goal.loop-index-preserved
+loop-index-preserved c = c.fill_column.ensures
+
+pub returns : goal.returns
+returns c =
+    let block = c.args.self.now in
+    let last : c.loop-index.index ≡ 24 = omega arith in
+    let all : block.n + block.n * c.loop-index.index / 8 ≡ 4 * block.n = ap (λ k. block.n + block.n * k / 8) last ∙ (omega arith) in
+    subst (λ t. Filled block.order.now.columns block.n block.rows.now t c.loop-index.buffer) all c.loop-index.invariant

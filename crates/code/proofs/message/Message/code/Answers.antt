@@ -1,13 +1,21 @@
-use Rattle.std.proofs.Common.{◌≡◌, ◌++◌, sym, ◌∙◌, rules}
+use Rattle.std.proofs.Common.{◌≡◌, ◌+◌, ◌/◌, ◌++◌, length, drop, set, take, subst, ◌∙◌, arith, rules}
 use Rattle.block.specs.Checks.{report_message}
-use Rattle.code.specs.Register.{after, cells, cleared, tail, trace}
-use Rattle.code.proofs.Runs.{trace_append}
+use Rattle.block.specs.Sizes.{block_octets}
+use Rattle.code.specs.Register.{coded}
+use Rattle.code.specs.Rows.{AreRows}
+use Rattle.code.proofs.Rowed.{more_rows, rows_before}
 use Rattle.code.proofs.message.Message.code.Goals as goal
 
 pub returns : goal.returns
 returns c =
-    let message = report_message c.args.self.now.report.now c.args.self.now.size.octets c.args.self.now.size.check in
-    let closed : c.copy_from_slice.new.self ≡ trace (cells c.run.new.register) (tail (cells c.run.new.register)) = search rules in
-    (λ i. c.run.ensures.steps i ++ closed i)
-    ∙ (λ i. trace cleared message ++ trace (c.run.ensures.after i) (tail (c.run.ensures.after i)))
-    ∙ sym (trace_append cleared message (tail (after cleared message)))
+    let message = c.args.self.now in
+    let steps = coded (report_message message.report.now message.size.octets message.size.check) in
+    let whole = c.octets.result + c.check.result / 8 in
+    let rows = c.args.rows.now in
+    let noted = c.run.new.rows in
+    let all : whole + 1 ≡ block_octets message.size.octets message.size.check = omega arith in
+    let front : length (take whole rows) ≡ whole = search rules in
+    let long : length noted ≡ whole = c.run.auto.rows ∙ front in
+    let before = rows_before steps noted (drop whole rows) whole (omega arith) (subst (λ n. AreRows steps n noted) front c.run.ensures.rows) in
+    subst (λ n. AreRows steps n (set (noted ++ drop whole rows) whole c.last_row.result)) all
+    (more_rows steps (noted ++ drop whole rows) whole c.last_row.result (search rules) before c.last_row.ensures)
