@@ -10,7 +10,7 @@ use Rattle.block.proofs.Laws.{bit_alone, octet_same}
 use Rattle.block.proofs.Octets.{bit_octet}
 use Rattle.code.specs.Places.{buffer_of, column_at, output, place_bit, row_at}
 use Rattle.code.specs.Register.{Cells, after, cleared, coded, silent, tail, trace}
-use Rattle.code.specs.Rows.{AreRows, Filled, blank, buffer_octet, column_bit, column_octet, first, octet_bits, steps_row, row_octet, row_output}
+use Rattle.code.specs.Rows.{AreRows, Filled, blank, buffer_octet, behind_octet, cell, first, octet_bits, steps_row, row_octet, row_output}
 use Rattle.code.specs.declared.Outputs.{Outputs}
 use Rattle.code.specs.declared.Row.{Row}
 use Rattle.code.proofs.Runs.{after_append, coded_behind, first_split, trace_append, trace_front}
@@ -127,7 +127,7 @@ module _ (order : List ℕ) (n : ℕ) (steps : List Outputs) (rows : List Row) (
   own_bit p h =
       sym (ap (λ own. output (cond own 1 (column_at order n p / 8 + 2)) (get_or steps (cond own p (8 * row_at n p + column_at order n p % 8)) silent.outputs)) (lt-ltb p (8 * n) h))
 
-  behind_bit : (p : ℕ) → 1 ≤ n → 8 * n ≤ p → column_bit order rows ((p - 8 * n) / n) ((p - 8 * n) % n) ≡ place_bit order n steps p
+  behind_bit : (p : ℕ) → 1 ≤ n → 8 * n ≤ p → cell rows (get_or order ((p - 8 * n) / n) 0) ((p - 8 * n) % n) ≡ place_bit order n steps p
   unfolding place_bit AreRows
   behind_bit p some h =
       let r = row_at n p in
@@ -142,10 +142,10 @@ module _ (order : List ℕ) (n : ℕ) (steps : List Outputs) (rows : List Row) (
   unfolding buffer_octet AreRows
   octet_right b some =
       elim (cases_lt b n) [
-        | inl own ↦ ap (λ t. cond t (get_or rows b blank).v1 (column_octet order n rows b)) (lt-ltb b n own)
+        | inl own ↦ ap (λ t. cond t (get_or rows b blank).v1 (behind_octet order n rows b)) (lt-ltb b n own)
             ∙ ap (λ row. row.v1) (are b own)
             ∙ octet_same _ _ (λ i h. own_bit (8 * b + i) (omega arith))
-        | inr behind ↦ ap (λ t. cond t (get_or rows b blank).v1 (column_octet order n rows b)) (le-ltb b n behind)
+        | inr behind ↦ ap (λ t. cond t (get_or rows b blank).v1 (behind_octet order n rows b)) (le-ltb b n behind)
             ∙ octet_same _ _ (λ i h. behind_bit (8 * b + i) some (omega arith))
       ]
 
@@ -160,21 +160,21 @@ module _ (order : List ℕ) (n : ℕ) (steps : List Outputs) (rows : List Row) (
 -- octets of the buffer, by where they lie
 pub own_octet : (order : List ℕ) (n : ℕ) (rows : List Row) (b : ℕ) → b < n → (get_or rows b blank).v1 ≡ buffer_octet order n rows b
 unfolding buffer_octet
-own_octet order n rows b own = sym (ap (λ t. cond t (get_or rows b blank).v1 (column_octet order n rows b)) (lt-ltb b n own))
+own_octet order n rows b own = sym (ap (λ t. cond t (get_or rows b blank).v1 (behind_octet order n rows b)) (lt-ltb b n own))
 
-pub octet_behind : (order : List ℕ) (n : ℕ) (rows : List Row) (b : ℕ) → n ≤ b → column_octet order n rows b ≡ buffer_octet order n rows b
+pub octet_behind : (order : List ℕ) (n : ℕ) (rows : List Row) (b : ℕ) → n ≤ b → behind_octet order n rows b ≡ buffer_octet order n rows b
 unfolding buffer_octet
-octet_behind order n rows b behind = sym (ap (λ t. cond t (get_or rows b blank).v1 (column_octet order n rows b)) (le-ltb b n behind))
+octet_behind order n rows b behind = sym (ap (λ t. cond t (get_or rows b blank).v1 (behind_octet order n rows b)) (le-ltb b n behind))
 
 -- an octet behind output 1 whose bits are all of one column, from row r on
 pub in_column : (order : List ℕ) (n : ℕ) (rows : List Row) (index b r : ℕ) → n ≤ b → 8 * b ≡ 8 * n + (n * index + r) → r + 8 ≤ n
-    → octet_of (λ i. column_bit order rows index (r + i)) ≡ buffer_octet order n rows b
+    → octet_of (λ i. cell rows (get_or order index 0) (r + i)) ≡ buffer_octet order n rows b
 in_column order n rows index b r behind at within =
     octet_same _ _ (λ i h.
     let q : 8 * b + i - 8 * n ≡ index * n + (r + i) = omega (arith, mul_comm n index) in
     let row : (index * n + (r + i)) / n ≡ index = div-mul-add index n (r + i) (omega arith) in
     let rest : (index * n + (r + i)) % n ≡ r + i = mod-mul-add index n (r + i) (omega arith) in
-    sym ((λ j. column_bit order rows (q j / n) (q j % n)) ∙ (λ j. column_bit order rows (row j) (rest j))))
+    sym ((λ j. cell rows (get_or order (q j / n) 0) (q j % n)) ∙ (λ j. cell rows (get_or order (row j) 0) (rest j))))
     ∙ octet_behind order n rows b behind
 
 -- rows with others behind them

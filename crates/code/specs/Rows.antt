@@ -39,19 +39,18 @@ AreRows steps n rows = (b : ℕ) → b < n → slice_index_or rows b blank ≡ s
 abbrev pub row_output : ℕ → Row → ℕ
 row_output o r = cond (o == 1) r.v1 (cond (o == 2) r.v2 (cond (o == 3) r.v3 r.v4))
 
--- the bit in a row of the column at an index of the order
-abbrev pub column_bit : List ℕ → List Row → ℕ → ℕ → Bool
-column_bit order rows index row =
-    bit (slice_index order index % 8) (row_output (slice_index order index / 8 + 2) (slice_index_or rows row blank))
+-- the bit in a row of a column
+abbrev pub cell : List Row → ℕ → ℕ → Bool
+cell rows column row = bit (column % 8) (row_output (column / 8 + 2) (slice_index_or rows row blank))
 
 -- an octet of the buffer that lies behind output 1
-abbrev pub column_octet : List ℕ → ℕ → List Row → ℕ → ℕ
-column_octet order n rows b =
-    octet_of (λ i. column_bit order rows ((8 * b + i - 8 * n) / n) ((8 * b + i - 8 * n) % n))
+abbrev pub behind_octet : List ℕ → ℕ → List Row → ℕ → ℕ
+behind_octet order n rows b =
+    octet_of (λ i. cell rows (slice_index order ((8 * b + i - 8 * n) / n)) ((8 * b + i - 8 * n) % n))
 
 -- octet b of the buffer
 unfoldable pub buffer_octet : List ℕ → ℕ → List Row → ℕ → ℕ
-buffer_octet order n rows b = cond (nat_lt b n) (slice_index_or rows b blank).v1 (column_octet order n rows b)
+buffer_octet order n rows b = cond (nat_lt b n) (slice_index_or rows b blank).v1 (behind_octet order n rows b)
 
 -- the first t octets of the buffer are there
 unfoldable pub Filled : List ℕ → ℕ → List Row → ℕ → List ℕ → Type 0

@@ -1,6 +1,7 @@
 // A coded block, and the buffer that it fills.
 ghost use Rattle.std.specs.Prelude.{◌≡◌, ◌+◌, ◌*◌, ◌/◌, ◌<◌, ◌≤◌, length};
-ghost use Rattle.code.specs.Rows.{Filled, buffer_octet, column_bit, row_output};
+ghost use Rattle.block.specs.Bits.{octet_of};
+ghost use Rattle.code.specs.Rows.{Filled, buffer_octet, cell, row_output};
 
 use crate::{Order, Row};
 use block::{bit_of, octet};
@@ -31,41 +32,34 @@ fn output_of(row: Row, number: usize) -> u8
 }
 
 impl CodedBlock<'_> {
-    // The bit in a row of the column at `index` of the order.
-    fn column_bit(&self, index: usize, row: usize) -> bool
-        requires { (index < 24) × (row < self.now.n) }
-        ensures { result ≡ column_bit self.now.order.now.columns self.now.rows.now index row }
+    // The bit in a row of a column.
+    fn cell(&self, column: usize, row: usize) -> bool
+        requires { row < self.now.n }
+        ensures { result ≡ cell self.now.rows.now column row }
     {
-        let column = self.order.columns[index] as usize;
         bit_of(
             u32::from(output_of(self.rows[row], column / 8 + 2)),
             column % 8,
         )
     }
 
-    // Octet `b` of the buffer, which may have bits of several columns.
+    // Octet `b` of the buffer, behind output 1: it may have bits of several columns.
     fn mixed_octet(&self, b: usize) -> u8
         requires { (self.now.n ≤ b) × (b < 4 * self.now.n) }
         ensures { result ≡ buffer_octet self.now.order.now.columns self.now.n self.now.rows.now b }
     {
         octet(array::from_fn(|i| {
             let q = 8 * b + i - 8 * self.n;
-            self.column_bit(q / self.n, q % self.n)
+            self.cell(self.order.columns[q / self.n] as usize, q % self.n)
         }))
     }
 
-    // Octet `b` of the buffer, where it has bits of the column at `index`, and of none behind that.
-    fn octet(&self, index: usize, b: usize) -> u8
-        requires within { (index < 24) × (self.now.n ≤ b) }
-        requires last { 8 * b + 8 ≤ 8 * self.now.n + self.now.n * (index + 1) }
-        ensures { result ≡ buffer_octet self.now.order.now.columns self.now.n self.now.rows.now b }
+    // The octet of eight bits of a column, from a row on.
+    fn column_octet(&self, column: usize, row: usize) -> u8
+        requires { row + 8 ≤ self.now.n }
+        ensures { result ≡ octet_of (λ i. cell self.now.rows.now column (row + i)) }
     {
-        let begun = self.n * index;
-        let q = 8 * (b - self.n);
-        if q < begun {
-            return self.mixed_octet(b);
-        }
-        octet(array::from_fn(|i| self.column_bit(index, q - begun + i)))
+        octet(array::from_fn(|i| self.cell(column, row + i)))
     }
 
     // Fills the octets of output 1.
@@ -78,6 +72,22 @@ impl CodedBlock<'_> {
         }
     }
 
+    // Fills octets that have bits of the column at `index` alone: from octet `start` on, up to octet `end`. They have a loop of
+    // their own, which the compiler then keeps short.
+    fn fill_whole(&self, index: usize, start: usize, end: usize, buffer: &mut [u8])
+        requires within { (index < 24) × (start ≤ end) × (length buffer.old ≡ 4 * self.now.n) }
+        requires first { 8 * self.now.n + self.now.n * index ≤ 8 * start }
+        requires last { 8 * end ≤ 8 * self.now.n + self.now.n * (index + 1) }
+        requires there { Filled self.now.order.now.columns self.now.n self.now.rows.now start buffer.old }
+        ensures { Filled self.now.order.now.columns self.now.n self.now.rows.now end buffer.new }
+    {
+        let column = self.order.columns[index] as usize;
+        let place = 8 * self.n + self.n * index;
+        for b in start..end {
+            buffer[b] = self.column_octet(column, 8 * b - place);
+        }
+    }
+
     // Fills the octets behind those that are there, as far as the column at `index` fills whole ones.
     fn fill_column(&self, index: usize, buffer: &mut [u8])
         requires within { (index < 24) × (length buffer.old ≡ 4 * self.now.n) }
@@ -86,9 +96,11 @@ impl CodedBlock<'_> {
     {
         let start = self.n + self.n * index / 8;
         let end = self.n + self.n * (index + 1) / 8;
-        for b in start..end {
-            buffer[b] = self.octet(index, b);
+        if start == end {
+            return;
         }
+        buffer[start] = self.mixed_octet(start);
+        self.fill_whole(index, start + 1, end, buffer);
     }
 
     // Fills the 4 * N octets of a buffer.

@@ -1,0 +1,27 @@
+use Rattle.std.proofs.Common.{◌≡◌, ◌+◌, ◌-◌, ◌*◌, ◌≤◌, mul-add, mul-le-mul_left, subst, ◌∙◌, arith}
+use Rattle.code.specs.Rows.{Filled}
+use Rattle.code.proofs.Rowed.{in_column, more_filled}
+use Rattle.code.proofs.coded.CodedBlock.fill_whole.Goals as goal
+
+pub loop-b-init : goal.loop-b-init
+loop-b-init c = c.requires.there
+
+pub loop-b-preserved : goal.loop-b-preserved
+loop-b-preserved c =
+    let block = c.args.self.now in
+    let order = block.order.now.columns in
+    let rows = block.rows.now in
+    let n = block.n in
+    let b = c.loop-b.b in
+    let index = c.args.index in
+    let row = 8 * b - (8 * n + n * index) in
+    let next : n * (index + 1) ≡ n * index + n * 1 = mul-add n index 1 in
+    let most : n * (index + 1) ≤ n * 24 = mul-le-mul_left n (omega (arith, c.requires.within)) in
+    more_filled order n rows c.loop-b.buffer b c.column_octet.result (omega (arith, c.requires)) c.loop-b.invariant
+    (c.column_octet.ensures ∙ in_column order n rows index b row (omega (arith, c.requires)) (omega (arith, c.requires)) (omega (arith, c.requires)))
+
+pub returns : goal.returns
+returns c =
+    let block = c.args.self.now in
+    let all : c.loop-b.b ≡ c.args.end = omega (arith, c.requires) in
+    subst (λ t. Filled block.order.now.columns block.n block.rows.now t c.loop-b.buffer) all c.loop-b.invariant
