@@ -1,5 +1,5 @@
 -- A block by the octets of its outputs: how the code goes about it. No promise of a public call rests on this. Assumes nothing.
-use Rattle.std.specs.Prelude.{◌≡◌, ℕ, ◌+◌, ◌-◌, ◌*◌, ◌/◌, ◌%◌, ◌<◌, Bool, cond, List, [], ◌∷◌, map, take, ◌==◌, nat_lt, slice_index, slice_index_or}
+use Rattle.std.specs.Prelude.{◌≡◌, ℕ, ◌+◌, ◌-◌, ◌*◌, ◌/◌, ◌%◌, ◌<◌, ◌≤◌, Bool, cond, List, [], ◌∷◌, length, map, take, ◌==◌, nat_lt, slice_index, slice_index_or}
 use Rattle.std.specs.List.{range_with_len}
 use Rattle.block.specs.Bits.{bit, bits_of, octet_of}
 use Rattle.code.specs.Places.{output}
@@ -38,6 +38,10 @@ AreRows steps n rows = (b : ℕ) → b < n → slice_index_or rows b blank ≡ s
 -- output 1, 2, 3 or 4 of a row
 abbrev pub row_output : ℕ → Row → ℕ
 row_output o r = cond (o == 1) r.v1 (cond (o == 2) r.v2 (cond (o == 3) r.v3 r.v4))
+
+-- the first n octets of a band are output o of the rows
+abbrev pub IsBand : ℕ → ℕ → List Row → List ℕ → Type 0
+IsBand o n rows band = (n ≤ length band) × ((b : ℕ) → b < n → slice_index band b ≡ row_output o (slice_index_or rows b blank))
 
 -- the bit in a row of a column
 abbrev pub cell : List Row → ℕ → ℕ → Bool

@@ -1,25 +1,34 @@
 // A coded block, and the buffer that it fills.
-ghost use Rattle.std.specs.Prelude.{◌≡◌, ◌+◌, ◌*◌, ◌/◌, ◌<◌, ◌≤◌, length};
-ghost use Rattle.block.specs.Bits.{octet_of};
-ghost use Rattle.code.specs.Rows.{Filled, buffer_octet, cell, row_output};
+ghost use Rattle.std.specs.Prelude.{◌≡◌, ◌+◌, ◌*◌, ◌/◌, ◌<◌, ◌≤◌, length, slice_index};
+ghost use Rattle.block.specs.Bits.{bit, octet_of};
+ghost use Rattle.code.specs.Rows.{Filled, IsBand, buffer_octet, cell, row_output};
 
 use crate::{Order, Row};
 use block::{bit_of, octet};
 use std::array;
 
-// The rows of a block of `n` octets, and the order of the columns that they fill. `n` stands beside them, since each place is
-// reckoned from it.
+// The octets of the longest block.
+pub(crate) const MOST_OCTETS: usize = 516;
+
+// The rows of a block of `n` octets, their outputs 2 to 4 each side by side, and the order of the columns that they fill. `n` stands
+// beside them, since each place is reckoned from it, and since what lies behind the first `n` is no part of the block.
 #[derive(Clone, Copy)]
 pub(crate) struct CodedBlock<'a> {
     pub(crate) order: &'a Order,
     pub(crate) n: usize,
     pub(crate) rows: &'a [Row],
+    pub(crate) v2: &'a [u8],
+    pub(crate) v3: &'a [u8],
+    pub(crate) v4: &'a [u8],
     ghost some: { 1 ≤ n },
     ghost short: { n ≤ 516 },
-    ghost whole: { length rows.now ≡ n },
+    ghost whole: { n ≤ length rows.now },
+    ghost two: { IsBand 2 n rows.now v2.now },
+    ghost three: { IsBand 3 n rows.now v3.now },
+    ghost four: { IsBand 4 n rows.now v4.now },
 }
 
-// Output 1, 2, 3 or 4 of a row. It goes by number, since it is reckoned from a column.
+// Output 1, 2, 3 or 4 of a row. It goes by number, as the columns reckon it.
 fn output_of(row: Row, number: usize) -> u8
     ensures { result ≡ row_output number row }
 {
@@ -31,16 +40,39 @@ fn output_of(row: Row, number: usize) -> u8
     }
 }
 
-impl CodedBlock<'_> {
+// Output `number` of all rows, side by side.
+pub(crate) fn band_of(rows: &[Row; MOST_OCTETS], number: usize) -> [u8; MOST_OCTETS]
+    ensures { IsBand number 516 rows.now result }
+{
+    array::from_fn(|b| output_of(rows[b], number))
+}
+
+// The octet of bit `i` of eight octets, from octet `row` on.
+fn column_octet(band: &[u8], i: usize, row: usize) -> u8
+    requires { row + 8 ≤ length band.now }
+    ensures { result ≡ octet_of (λ k. bit i (slice_index band.now (row + k))) }
+{
+    octet(array::from_fn(|k| bit_of(u32::from(band[row + k]), i)))
+}
+
+impl<'a> CodedBlock<'a> {
+    // The octets of the output that a column belongs to.
+    fn band(&self, column: usize) -> &'a [u8]
+        ensures { IsBand (column / 8 + 2) self.now.n self.now.rows.now result.now }
+    {
+        match column / 8 {
+            0 => self.v2,
+            1 => self.v3,
+            _ => self.v4,
+        }
+    }
+
     // The bit in a row of a column.
     fn cell(&self, column: usize, row: usize) -> bool
         requires { row < self.now.n }
         ensures { result ≡ cell self.now.rows.now column row }
     {
-        bit_of(
-            u32::from(output_of(self.rows[row], column / 8 + 2)),
-            column % 8,
-        )
+        bit_of(u32::from(self.band(column)[row]), column % 8)
     }
 
     // Octet `b` of the buffer, behind output 1: it may have bits of several columns.
@@ -52,14 +84,6 @@ impl CodedBlock<'_> {
             let q = 8 * b + i - 8 * self.n;
             self.cell(self.order.columns[q / self.n] as usize, q % self.n)
         }))
-    }
-
-    // The octet of eight bits of a column, from a row on.
-    fn column_octet(&self, column: usize, row: usize) -> u8
-        requires { row + 8 ≤ self.now.n }
-        ensures { result ≡ octet_of (λ i. cell self.now.rows.now column (row + i)) }
-    {
-        octet(array::from_fn(|i| self.cell(column, row + i)))
     }
 
     // Fills the octets of output 1.
@@ -82,9 +106,10 @@ impl CodedBlock<'_> {
         ensures { Filled self.now.order.now.columns self.now.n self.now.rows.now end buffer.new }
     {
         let column = self.order.columns[index] as usize;
+        let band = self.band(column);
         let place = 8 * self.n + self.n * index;
         for b in start..end {
-            buffer[b] = self.column_octet(column, 8 * b - place);
+            buffer[b] = column_octet(band, column % 8, 8 * b - place);
         }
     }
 

@@ -6,13 +6,10 @@ ghost use Rattle.code.specs.Places.{buffer_of};
 ghost use Rattle.code.specs.Calls.{encode_case, EncodeDoes};
 ghost use Rattle.code.specs.Register.{coded};
 
-use crate::coded::CodedBlock;
+use crate::coded::{CodedBlock, MOST_OCTETS, band_of};
 use crate::message::Message;
 use crate::{EncodeRefusal, Order, Row};
 use block::Size;
-
-// The octets of the longest block.
-const MOST_OCTETS: usize = 516;
 
 impl EncodeRefusal {
     pub fn number(self) -> u8
@@ -33,9 +30,16 @@ fn encode_block(size: Size, report: &[u8], order: &Order, buffer: &mut [u8])
 {
     let n = size.block_octets();
     let mut rows = [Row::default(); MOST_OCTETS];
-    let rows = &mut rows[..n];
-    Message::new(size, report).code(rows);
-    CodedBlock { order, n, rows }.fill(buffer);
+    Message::new(size, report).code(&mut rows[..n]);
+    let block = CodedBlock {
+        order,
+        n,
+        rows: &rows,
+        v2: &band_of(&rows, 2),
+        v3: &band_of(&rows, 3),
+        v4: &band_of(&rows, 4),
+    };
+    block.fill(buffer);
 }
 
 // Encodes a report into the first 4 * N octets of the buffer.

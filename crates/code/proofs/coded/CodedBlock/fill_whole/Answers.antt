@@ -1,5 +1,7 @@
-use Rattle.std.proofs.Common.{◌≡◌, ◌+◌, ◌-◌, ◌*◌, ◌≤◌, mul-add, mul-le-mul_left, subst, ◌∙◌, arith}
-use Rattle.code.specs.Rows.{Filled}
+use Rattle.std.proofs.Common.{◌≡◌, ◌+◌, ◌-◌, ◌*◌, ◌%◌, ◌≤◌, get_or, ap, mul-add, mul-le-mul_left, subst, ◌∙◌, arith}
+use Rattle.block.specs.Bits.{bit}
+use Rattle.block.proofs.Laws.{octet_same}
+use Rattle.code.specs.Rows.{Filled, cell}
 use Rattle.code.proofs.Rowed.{in_column, more_filled}
 use Rattle.code.proofs.coded.CodedBlock.fill_whole.Goals as goal
 
@@ -17,8 +19,11 @@ loop-b-preserved c =
     let row = 8 * b - (8 * n + n * index) in
     let next : n * (index + 1) ≡ n * index + n * 1 = mul-add n index 1 in
     let most : n * (index + 1) ≤ n * 24 = mul-le-mul_left n (omega (arith, c.requires.within)) in
+    let column = get_or order index 0 in
+    let within : row + 8 ≤ n = omega (arith, c.requires) in
+    let bits = octet_same _ (λ i. cell rows column (row + i)) (λ i h. ap (bit (column % 8)) (c.band-band.ensures.1 (row + i) (omega arith))) in
     more_filled order n rows c.loop-b.buffer b c.column_octet.result (omega (arith, c.requires)) c.loop-b.invariant
-    (c.column_octet.ensures ∙ in_column order n rows index b row (omega (arith, c.requires)) (omega (arith, c.requires)) (omega (arith, c.requires)))
+    (c.column_octet.ensures ∙ bits ∙ in_column order n rows index b row (omega (arith, c.requires)) (omega (arith, c.requires)) within)
 
 pub returns : goal.returns
 returns c =
