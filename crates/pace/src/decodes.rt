@@ -21,9 +21,9 @@ fn heard<R: Noted>(heap: Global, noise: &mut Noise, buffer: &[u8]) -> Result<Vec
     Ok(symbols)
 }
 
-// A sheet with its tally, the symbols that it takes, and the buffers that a decode is lent.
+// A sheet with its tally, the symbols that it takes, and the buffers that its decodes are lent.
 #[derive(Drop)]
-struct Desk<R: Noted> {
+struct Receiver<R: Noted> {
     symbols: Vec<u8>,
     sheet: Sheet<R>,
     tally: Vec<Entry<R::Value>>,
@@ -32,9 +32,9 @@ struct Desk<R: Noted> {
     paths: Vec<Option<R::Value>>,
 }
 
-impl<R: Noted> Desk<R> {
-    // Takes the whole buffer of a new report.
-    fn fill(heap: Global, octets: usize) -> anyhow::Result<Desk<R>> {
+impl<R: Noted> Receiver<R> {
+    // Takes the whole buffer of a new report, as it is heard.
+    fn open(heap: Global, octets: usize) -> anyhow::Result<Receiver<R>> {
         let mut noise = Noise::begin();
         let size = Size::new(octets, CHECK)?;
         let n = size.block_octets();
@@ -48,7 +48,7 @@ impl<R: Noted> Desk<R> {
         let mut tally = vec![in heap; empty; 32 * n]?;
         let mut sheet = Sheet::<R>::open(octets, CHECK, Order::order_r(), tally.as_mut_slice())?;
         sheet.take(tally.as_mut_slice(), 0, symbols.as_slice())?;
-        Ok(Desk {
+        Ok(Receiver {
             symbols,
             sheet,
             tally,
@@ -79,7 +79,7 @@ impl<R: Noted> Desk<R> {
     }
 }
 
-impl<R: Noted> Desk<R>
+impl<R: Noted> Receiver<R>
 where
     R::Value: fmt::Display,
 {
@@ -96,12 +96,7 @@ where
         )?;
         Ok(())
     }
-}
 
-impl<R: Noted> Desk<R>
-where
-    R::Value: fmt::Display,
-{
     // Tells how long so many decodes take together. The sum of their weights is told too, so that none is left out.
     fn time_decode(&mut self, rt: &HostRuntime, times: usize) -> anyhow::Result<()> {
         let mut sum = R::zero();
@@ -138,12 +133,12 @@ pub(crate) fn time_decodes<R: Noted>(
 where
     R::Value: fmt::Display,
 {
-    let mut desk = Desk::<R>::fill(rt.alloc(), octets)?;
-    desk.tell(rt)?;
-    let times = effort.steps / (8 * desk.sheet.block_octets()) + 1;
+    let mut receiver = Receiver::<R>::open(rt.alloc(), octets)?;
+    receiver.tell(rt)?;
+    let times = effort.steps / (8 * receiver.sheet.block_octets()) + 1;
     for _ in 0..effort.rounds {
-        desk.time_decode(rt, times)?;
-        desk.time_take(rt, times)?;
+        receiver.time_decode(rt, times)?;
+        receiver.time_take(rt, times)?;
     }
     Ok(())
 }

@@ -11,9 +11,9 @@ const REPORTS: usize = 80;
 
 const OCTETS: usize = 512;
 
-// The reports, and the buffer that each is encoded into.
+// Eighty reports, and the buffer that each is encoded into.
 #[derive(Drop)]
-struct Desk {
+struct Batch {
     reports: Vec<Vec<u8>>,
     order: Order,
     buffer: Vec<u8>,
@@ -26,15 +26,15 @@ fn digest(sum: u32, octets: &[u8]) -> u32 {
     })
 }
 
-impl Desk {
-    fn fill(heap: Global) -> anyhow::Result<Desk> {
+impl Batch {
+    fn begin(heap: Global) -> anyhow::Result<Batch> {
         let mut noise = Noise::begin();
         let mut reports = Vec::new(heap);
         for _ in 0..REPORTS {
             reports.push(report(heap, &mut noise, OCTETS)?)?;
         }
         let size = Size::new(OCTETS, CHECK)?;
-        Ok(Desk {
+        Ok(Batch {
             reports,
             order: Order::order_r(),
             buffer: vec![in heap; 0u8; 4 * size.block_octets()]?,
@@ -87,10 +87,10 @@ impl Desk {
 
 // Tells a digest of the encoded reports, and times their encoding.
 pub(crate) fn time_encodes(rt: &HostRuntime, effort: Effort) -> anyhow::Result<()> {
-    let mut desk = Desk::fill(rt.alloc())?;
-    println!(rt; "encode {:08x}", desk.digest()?)?;
+    let mut batch = Batch::begin(rt.alloc())?;
+    println!(rt; "encode {:08x}", batch.digest()?)?;
     for _ in 0..effort.rounds {
-        desk.time(rt, effort.batches)?;
+        batch.time(rt, effort.batches)?;
     }
     Ok(())
 }
