@@ -201,8 +201,7 @@ static int64_t now(void) {
 
 // ---- each peer's decode ----
 
-// Decodes a block, and answers a number that depends on the work. `named` gets the message and the tail in octets, where that is
-// part of the peer's own work.
+// Decodes a block, and answers a number that depends on the work.
 typedef int64_t decode(const struct block *block);
 
 static uint8_t plain_named[MOST_N];

@@ -19,7 +19,8 @@
  *
  * Duties of the caller, which nothing checks. A pointer is valid for as many octets as the length behind it says, and is not
  * NULL even where that length is 0. What a call writes overlaps nothing else that it is handed, and no other thread uses it
- * meanwhile. A call wants about 150 KiB of stack. No call allocates, and none keeps what it was handed.
+ * meanwhile. A hearing wants about 140 KiB of stack, every
+ * other call under 6. No call allocates, and none keeps what it was handed.
  */
 #ifndef TALLY_H
 #define TALLY_H

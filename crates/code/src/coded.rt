@@ -28,7 +28,7 @@ pub(crate) struct CodedBlock<'a> {
     ghost four: { IsBand 4 n rows.now v4.now },
 }
 
-// Output 1, 2, 3 or 4 of a row. It goes by number, as the columns reckon it.
+// Output 1, 2, 3 or 4 of a row. It goes by number, as what is said of a band does.
 fn output_of(row: Row, number: usize) -> u8
     ensures { result ≡ row_output number row }
 {

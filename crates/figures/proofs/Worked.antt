@@ -15,28 +15,22 @@ unfolding bit_at octet_of extended place_bit some_size
 all_hold = (
   refl,
   (
-    refl,
+    (refl, refl),
     (
-      refl,
+      (refl, refl),
       (
-        refl,
+        (refl, refl),
         (
-          refl,
+          (refl, refl),
           (
-            refl,
+            (refl, refl),
             (
-              refl,
+              (refl, refl),
               (
                 (refl, refl),
                 (
                   (refl, refl),
-                  (
-                    (refl, refl),
-                    (
-                      (refl, refl),
-                      ((refl, only_three), (refl, tt)),
-                    ),
-                  ),
+                  ((refl, refl), ((refl, refl), ((refl, only_three), (refl, tt)))),
                 ),
               ),
             ),

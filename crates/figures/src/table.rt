@@ -96,7 +96,7 @@ pub fn worked_figures() -> [Figure; 13]
             k: 2,
             octets: 3,
         },
-        Figure::NoWayBack {
+        Figure::BackRefused {
             payload: 6,
             check: 4,
             k: 2,

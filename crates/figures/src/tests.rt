@@ -66,7 +66,7 @@ fn answers(figure: Figure) -> bool {
             k,
             octets,
         } => back(payload, check, k) == Ok(octets),
-        Figure::NoWayBack {
+        Figure::BackRefused {
             payload,
             check,
             k,

@@ -5,13 +5,13 @@ use Rattle.block.specs.Sizes.{block_octets, size_checks}
 use Rattle.code.specs.Calls.{encode_checks, encoded, order_checks}
 use Rattle.sender.specs.Passages.{copy_checks, passage_case, round_of, sent}
 use Rattle.sender.specs.declared.PassageRefusal.{PassageRefusal}
-use Rattle.tally_c.specs.Numbers.{Tells}
+use Rattle.tally_c.specs.Numbers.{Numbered}
 
 -- The column order is tested first, and then all that encode tests. The buffer's first 4 * N octets are then those of the
 -- report, and the rest stays.
 abbrev pub EncodeTells : List ℕ → List ℕ → ℕ → List ℕ → List ℕ → ℕ → Type 0
 EncodeTells columns report check before after number =
-    Tells (order_checks columns ++ encode_checks (length report) check (length before)) number
+    Numbered (order_checks columns ++ encode_checks (length report) check (length before)) number
     (after ≡ encoded report check columns ++ drop (4 * block_octets (length report) check) before)
     (after ≡ before)
 
@@ -29,6 +29,6 @@ SendDoes round cursor cursor' buffer target target' count r =
 -- The size is tested first, and then all that a copy tests.
 abbrev pub PayloadTells : ℕ → ℕ → ℕ → ℕ → List ℕ → List ℕ → List ℕ → ℕ → ℕ → Type 0
 PayloadTells octets check cursor cursor' buffer target target' count number =
-    Tells (size_checks octets check ++ copy_checks (round_of octets check) (length buffer) (length target) count) number
+    Numbered (size_checks octets check ++ copy_checks (round_of octets check) (length buffer) (length target) count) number
     (Sent (round_of octets check) cursor cursor' buffer target target' count)
     ((target' ≡ target) × (cursor' ≡ cursor))

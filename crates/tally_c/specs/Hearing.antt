@@ -12,7 +12,7 @@ use Rattle.sheet.specs.declared.TakeRefusal.TheVariants.{Symbol}
 use Rattle.tally_c.specs.declared.TallyHeard.{TallyHeard}
 use Rattle.tally_c.specs.declared.HearRefusal.{HearRefusal}
 use Rattle.tally_c.specs.declared.HearRefusal.TheVariants.{Order, Open, Take, Find}
-use Rattle.tally_c.specs.Numbers.{Tells}
+use Rattle.tally_c.specs.Numbers.{Numbered}
 
 -- the cases of a refusal: those of the call that refuses
 abbrev pub hear_case : Option ℕ → HearRefusal → Case
@@ -56,13 +56,13 @@ module _ {A : Type 0} (reads : ℕ → Option A) where
         (NamesHeard columns octets check start symbols before after) (after ≡ before) r
 
 -- what is told of a result
-abbrev pub Shown : Result (Found ℕ) HearRefusal → TallyHeard → Type 0
-Shown r heard =
+abbrev pub ShownHeard : Result (Found ℕ) HearRefusal → TallyHeard → Type 0
+ShownHeard r heard =
     MatchResult r (λ found. heard ≡ record { index = 0; weight = found.weight; refusal = 0; check_fits = found.check_fits })
     (λ e. (first : Option ℕ) → heard ≡ record { index = index_of e; weight = 0; refusal = (hear_case first e).number; check_fits = false })
 
--- what is told with a refusal: with 9 the index of the first octet that reads as none, and nothing else
-pub record Untold {A : Type 0} (reads : ℕ → Option A) (symbols : List ℕ) (heard : TallyHeard) : Type 0 where
+-- What is told beside a refusal's number: with 9 the index of the first octet that reads as none, and nothing else.
+pub record WithRefusal {A : Type 0} (reads : ℕ → Option A) (symbols : List ℕ) (heard : TallyHeard) : Type 0 where
   pub of_symbol : heard.refusal ≡ 9 → unlawful reads symbols ≡ Some heard.index
   pub of_none : (heard.refusal ≡ 9 → ⊥) → heard.index ≡ 0
   pub no_weight : heard.weight ≡ 0
@@ -71,6 +71,6 @@ pub record Untold {A : Type 0} (reads : ℕ → Option A) (symbols : List ℕ) (
 -- What C is told, and what the target then holds.
 abbrev pub HeardTells : {A : Type 0} → Scale ℕ → (ℕ → Option A) → (A → Bool → ℕ) → List ℕ → ℕ → ℕ → ℕ → List ℕ → List ℕ → List ℕ → TallyHeard → Type 0
 HeardTells s reads against columns octets check start symbols before after heard =
-    Tells (hear_checks reads columns octets check start symbols (length before)) heard.refusal
+    Numbered (hear_checks reads columns octets check start symbols (length before)) heard.refusal
     ((heard.index ≡ 0) × NamesHeard reads s against columns octets check start symbols before after (record { weight = heard.weight; check_fits = heard.check_fits }))
-    (Untold reads symbols heard × (after ≡ before))
+    (WithRefusal reads symbols heard × (after ≡ before))

@@ -7,13 +7,13 @@ use Rattle.tally_c.specs.declared.TallyLength.{TallyLength}
 
 -- A call that refuses by these checks, and performs just where all of them pass. Done is what holds after a performed call,
 -- and Kept what a refusal leaves.
-abbrev pub Tells : List Check → ℕ → Type 0 → Type 0 → Type 0
-Tells checks number Done Kept = MatchOption (first_refusal checks) ((number ≡ 0) × Done) (λ n. (number ≡ n) × Kept)
+abbrev pub Numbered : List Check → ℕ → Type 0 → Type 0 → Type 0
+Numbered checks number Done Kept = MatchOption (first_refusal checks) ((number ≡ 0) × Done) (λ n. (number ≡ n) × Kept)
 
 -- the number of what a call answers
 abbrev pub Numbers : {A E : Type 0} → (E → Case) → Result A E → ℕ → Type 0
 Numbers case_of r number = MatchResult r (λ x. number ≡ 0) (λ e. number ≡ (case_of e).number)
 
 -- a length, or why there is none
-abbrev pub Gives : Result ℕ PlanRefusal → TallyLength → Type 0
-Gives r told = MatchResult r (λ octets. (told.octets ≡ octets) × (told.refusal ≡ 0)) (λ e. (told.octets ≡ 0) × (told.refusal ≡ (plan_case e).number))
+abbrev pub ShownLength : Result ℕ PlanRefusal → TallyLength → Type 0
+ShownLength r told = MatchResult r (λ octets. (told.octets ≡ octets) × (told.refusal ≡ 0)) (λ e. (told.octets ≡ 0) × (told.refusal ≡ (plan_case e).number))

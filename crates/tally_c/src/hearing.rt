@@ -3,7 +3,7 @@ ghost use Rattle.std.specs.Prelude.{◌≡◌, ℕ, ◌≤◌, Option, length};
 ghost use Rattle.weighing.specs.Hard.{hard_reads, hard_weight};
 ghost use Rattle.weighing.specs.Levels.{level_reads, level_weight};
 ghost use Rattle.weighing.specs.Scales.{counted, largest};
-ghost use Rattle.tally_c.specs.Hearing.{HearDoes, HeardTells, Shown, hear_case, index_of};
+ghost use Rattle.tally_c.specs.Hearing.{HearDoes, HeardTells, ShownHeard, hear_case, index_of};
 
 use crate::{HearRefusal, TallyHeard};
 use code::Order;
@@ -27,7 +27,7 @@ impl HearRefusal {
             HearRefusal::Order(refusal) => refusal.number(),
             HearRefusal::Open(refusal) => refusal.number(),
             HearRefusal::Take(refusal) => refusal.number(),
-            HearRefusal::Find(refusal) => refusal as u8,
+            HearRefusal::Find(refusal) => refusal.number(),
         }
     }
 
@@ -70,7 +70,7 @@ fn hear<R: Reading>(
 
 // What was heard as C is handed it.
 fn shown(found: Result<Found<u32>, HearRefusal>) -> TallyHeard
-    ensures { Shown found result }
+    ensures { ShownHeard found result }
 {
     match found {
         Ok(found) => TallyHeard {
@@ -88,7 +88,7 @@ fn shown(found: Result<Found<u32>, HearRefusal>) -> TallyHeard
     }
 }
 
-// By the hard reading.
+// By the hard reading. Here and below the arrays stand in the call itself, since generic code can make none that it may lend on.
 #[unsafe(no_mangle)]
 pub extern "C" fn tally_hear_hard(
     columns: &[u8],
