@@ -27,9 +27,9 @@ pub(crate) const DAMAGES: [Damage; 8] = [
     Damage::AllTurned,
 ];
 
-// What becomes of a bit.
+// How a bit is heard.
 #[derive(Clone, Copy)]
-enum Fate {
+enum Heard {
     Kept,
     Turned,
     Missing,
@@ -37,20 +37,21 @@ enum Fate {
 }
 
 impl Damage {
-    // The fate of the bit at an index of a take.
-    fn fate(self, random: &mut Random, index: usize) -> Fate {
+    // How the bit at an index of a take is heard.
+    fn draw(self, random: &mut Random, index: usize) -> Heard {
         let draw = random.octet();
         match self {
-            Damage::Clean => Fate::Kept,
-            Damage::FewTurned if draw < 8 => Fate::Turned,
-            Damage::ManyTurned if draw < 45 => Fate::Turned,
-            Damage::Missing if draw < 128 => Fate::Missing,
-            Damage::Bursts if index % 256 < 50 && draw < 200 => Fate::Turned,
-            Damage::Chance if draw < 100 => Fate::Turned,
-            Damage::Chance if draw < 150 => Fate::Missing,
-            Damage::Noise => Fate::Blurred,
-            Damage::AllTurned => Fate::Turned,
-            _ => Fate::Kept,
+            Damage::Clean => Heard::Kept,
+            Damage::FewTurned if draw < 8 => Heard::Turned,
+            Damage::ManyTurned if draw < 45 => Heard::Turned,
+            Damage::Missing if draw < 128 => Heard::Missing,
+            Damage::Bursts if index % 256 < 50 && draw < 200 => Heard::Turned,
+            Damage::Chance if draw < 100 => Heard::Turned,
+            Damage::Chance if draw < 150 => Heard::Missing,
+            Damage::Chance if draw < 200 => Heard::Blurred,
+            Damage::Noise => Heard::Blurred,
+            Damage::AllTurned => Heard::Turned,
+            _ => Heard::Kept,
         }
     }
 }
@@ -70,18 +71,18 @@ fn blurred(random: &mut Random, bit: bool) -> u8 {
         .cast_unsigned()
 }
 
-// What a reading of this kind hears of a bit.
-fn heard(random: &mut Random, kind: Kind, bit: bool, fate: Fate) -> u8 {
+// The symbol that a reading of this kind hears in place of a bit.
+fn symbol_of(random: &mut Random, kind: Kind, bit: bool, heard: Heard) -> u8 {
     let size = random.octet() % 127 + 1;
-    match (kind, fate) {
-        (Kind::Hard, Fate::Kept) => u8::from(bit),
-        (Kind::Hard, Fate::Turned) => u8::from(!bit),
-        (Kind::Hard, Fate::Missing) => 2,
-        (Kind::Hard, Fate::Blurred) => u8::from(bit != (random.octet() < 50)),
-        (_, Fate::Kept) => level(bit, size),
-        (_, Fate::Turned) => level(!bit, size),
-        (_, Fate::Missing) => 0,
-        (_, Fate::Blurred) => blurred(random, bit),
+    match (kind, heard) {
+        (Kind::Hard, Heard::Kept) => u8::from(bit),
+        (Kind::Hard, Heard::Turned) => u8::from(!bit),
+        (Kind::Hard, Heard::Missing) => 2,
+        (Kind::Hard, Heard::Blurred) => u8::from(bit != (random.octet() < 50)),
+        (_, Heard::Kept) => level(bit, size),
+        (_, Heard::Turned) => level(!bit, size),
+        (_, Heard::Missing) => 0,
+        (_, Heard::Blurred) => blurred(random, bit),
     }
 }
 
@@ -95,8 +96,8 @@ pub(crate) fn hear(
 ) -> Result<Vec<u8>, AllocError> {
     let mut octets = Vec::with_capacity(heap, bits.len())?;
     for (index, bit) in bits.iter().enumerate() {
-        let fate = damage.fate(random, index);
-        octets.push(heard(random, kind, *bit, fate))?;
+        let heard = damage.draw(random, index);
+        octets.push(symbol_of(random, kind, *bit, heard))?;
     }
     Ok(octets)
 }

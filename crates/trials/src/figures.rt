@@ -125,11 +125,6 @@ fn levels(rt: &HostRuntime) -> anyhow::Result<Outcome> {
 }
 
 impl<R: Tried> Hearing<'_, R> {
-    // A take that may be refused; the book does not note it.
-    fn offer(&mut self, start: usize, octets: &[u8]) -> Result<usize, TakeRefusal> {
-        self.sheet.take(self.tally.as_mut_slice(), start, octets)
-    }
-
     // The number with which a take is refused, if it is.
     fn refused(&mut self, start: usize, octets: &[u8]) -> Option<u8> {
         self.offer(start, octets)

@@ -8,7 +8,7 @@ use crate::second::division::divides;
 use crate::second::nearest::{StepSums, by_steps, find_nearest, weight_of};
 use crate::tried::Tried;
 use search::Entry;
-use sheet::Sheet;
+use sheet::{Sheet, TakeRefusal};
 
 #[derive(Drop)]
 pub(crate) struct Hearing<'a, R: Tried> {
@@ -55,6 +55,11 @@ impl<'a, R: Tried> Hearing<'a, R> {
         let count = self.sheet.take(self.tally.as_mut_slice(), start, octets)?;
         self.book.note(start, octets)?;
         Ok(count == self.book.count)
+    }
+
+    // A take that may be refused; the book does not note it.
+    pub(crate) fn offer(&mut self, start: usize, octets: &[u8]) -> Result<usize, TakeRefusal> {
+        self.sheet.take(self.tally.as_mut_slice(), start, octets)
     }
 
     pub(crate) fn wipe(&mut self) -> anyhow::Result<()> {
@@ -157,7 +162,6 @@ impl<'a, R: Tried> Hearing<'a, R> {
         let sums = self.book.sums()?;
         findings.expect("the tally", self.tally_is(sums.as_slice()));
         let named = self.decode()?;
-        findings.expect("the tally after a decode", self.tally_is(sums.as_slice()));
         let steps = by_steps(
             self.frame.heap,
             sums.as_slice(),

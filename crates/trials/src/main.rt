@@ -1,4 +1,4 @@
-// Tries the whole reader against a second decoder that was written another way.
+// Tries calls of the crates against a second coder and decoder that were written another way. docs/trials.md says which.
 #![tactic(auto)]
 
 mod blocks;
@@ -14,6 +14,7 @@ mod refusals;
 mod second;
 mod senders;
 mod small;
+mod symbols;
 mod trial;
 mod tried;
 
@@ -21,6 +22,7 @@ use anyhow::ensure;
 
 fn main(rt: HostRuntime) -> anyhow::Result<()> {
     let decoded = figures::run(&rt)?
+        .with(symbols::run(&rt)?)
         .with(blocks::run(&rt)?)
         .with(small::run(&rt)?);
     let others = plans::run(&rt)?

@@ -1,4 +1,4 @@
-// The refusals of every call, at the edges of each condition and where several hold at once.
+// What calls refuse, at the edges of each condition and where several hold at once.
 mod coding;
 mod copying;
 mod decoding;
@@ -13,7 +13,7 @@ use std::fmt;
 const OCTETS: [usize; 7] = [0, 1, 2, 511, 512, 513, usize::MAX];
 
 // Check lengths about the edges of the four that are permitted.
-const CHECKS: [usize; 19] = [
+const CHECK_EDGES: [usize; 19] = [
     0,
     3,
     4,

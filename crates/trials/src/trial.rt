@@ -68,7 +68,7 @@ impl fmt::Display for Made {
     }
 }
 
-// A report as both coders have it.
+// The bits of a report's buffer, from which its parts are sent.
 #[derive(Drop)]
 struct Sent {
     bits: Vec<bool>,

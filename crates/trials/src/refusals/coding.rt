@@ -1,5 +1,5 @@
 // The check field, encoding and direct reading: what they refuse, what they answer, and what they leave.
-use super::{CHECKS, Called, Check, first, wrong_check, wrong_octets};
+use super::{CHECK_EDGES, Called, Check, first, wrong_check, wrong_octets};
 use crate::family::{Family, Findings, Outcome};
 use crate::frame::{Frame, ORDER_R, Sizes};
 use crate::pattern::{begins_with, is_marked, marked};
@@ -237,7 +237,7 @@ pub(super) fn run(rt: &HostRuntime) -> anyhow::Result<Outcome> {
     let mut random = Random(50);
     for octets in OCTETS {
         let report = some_report(heap, &mut random, octets)?;
-        for check in CHECKS {
+        for check in CHECK_EDGES {
             try_check(&mut family, heap, report.as_slice(), check)?;
             for more in LENGTHS {
                 try_encode(&mut family, heap, report.as_slice(), check, more)?;

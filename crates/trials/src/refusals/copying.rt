@@ -6,7 +6,7 @@ use crate::random::Random;
 use crate::senders::{Asked, Model};
 use sender::{Passage, Sender};
 
-// A copy by a sender that stands in the middle; the passage is then let go, and the sender is back.
+// A copy by a sender that stands at octet 5; the passage is then let go, and the sender is back.
 fn try_copy(
     family: &mut Family<'_>,
     model: &Model,

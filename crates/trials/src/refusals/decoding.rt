@@ -1,10 +1,9 @@
-// Decoding: what is refused where any of the four buffers is short, and what is left of each.
+// Decoding: what is refused where any of the four buffers is short, and what is left of the three that it may write.
 use super::{Called, Check, first};
 use crate::family::{Family, Findings, Outcome};
 use crate::frame::Sizes;
 use crate::pattern::{
-    is_marked, is_marked_paths, is_marked_tally, is_marked_words, marked, marked_paths,
-    marked_tally, marked_words,
+    is_marked, is_marked_paths, is_marked_words, marked, marked_paths, marked_tally, marked_words,
 };
 use crate::tried::Tried;
 use code::Order;
@@ -88,7 +87,6 @@ fn try_decode<R: Tried>(
             paths: 0,
         },
     };
-    findings.expect("the tally", is_marked_tally::<R>(tally.as_slice(), 0));
     findings.expect("the target", is_marked(target.as_slice(), used.target));
     findings.expect(
         "the survivors",
@@ -98,7 +96,6 @@ fn try_decode<R: Tried>(
         "the path weights",
         is_marked_paths::<R>(paths.as_slice(), used.paths),
     );
-    findings.expect("the count", sheet.count() == 0);
     let numbers = [lent.tally, lent.target, lent.survivors, lent.paths];
     family.case(
         Called {

@@ -1,5 +1,5 @@
 // Calls that are handed numbers alone: orders, payload lengths and back, and the making of a sender.
-use super::{CHECKS, Called, Check, OCTETS, first, wrong_check, wrong_octets};
+use super::{CHECK_EDGES, Called, Check, OCTETS, first, wrong_check, wrong_octets};
 use crate::family::{Family, Findings, Outcome};
 use crate::frame::{ORDER_R, Sizes, shuffled};
 use crate::plans::payload;
@@ -102,7 +102,7 @@ fn try_orders(family: &mut Family<'_>) -> anyhow::Result<()> {
 pub(super) fn run(rt: &HostRuntime) -> anyhow::Result<Outcome> {
     let mut family = Family::begin(rt, "refusals of numbers");
     try_orders(&mut family)?;
-    for check in CHECKS {
+    for check in CHECK_EDGES {
         for octets in OCTETS {
             try_plan(&mut family, octets, check)?;
             try_sender(&mut family, octets, check)?;

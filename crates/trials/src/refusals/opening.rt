@@ -1,5 +1,5 @@
 // Opening and wiping a sheet: what they refuse, what they clear, and what they leave.
-use super::{CHECKS, Called, Check, OCTETS, first, wrong_check, wrong_octets};
+use super::{CHECK_EDGES, Called, Check, OCTETS, first, wrong_check, wrong_octets};
 use crate::family::{Family, Findings, Outcome};
 use crate::frame::Sizes;
 use crate::pattern::{is_marked_tally, is_zero_tally, marked_tally};
@@ -65,7 +65,7 @@ fn try_open<R: Tried>(
 
 // Every edge of the octets and the check, with tallies about the least that serves.
 fn try_opens<R: Tried>(family: &mut Family<'_>, heap: Global) -> anyhow::Result<()> {
-    for check in CHECKS {
+    for check in CHECK_EDGES {
         for octets in OCTETS {
             let sizes = Sizes::of(octets, check);
             let places = sizes.places().min(17000);
