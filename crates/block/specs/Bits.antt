@@ -1,6 +1,7 @@
 -- Octets as bits. In an octet, bit 1 has value 1, bit 8 has value 128, and bit 1 goes first.
 -- Bits are counted from 0 here, so bit 0 of a number is the octet's bit 1. Assumes nothing.
-use Rattle.std.specs.Prelude.{ℕ, ◌+◌, ◌*◌, ◌/◌, ◌%◌, ◌^◌, Bool, false, cond, List, map, ◌==◌, slice_index, slice_index_or}
+use Rattle.std.specs.Prelude.{ℕ, ◌+◌, ◌*◌, ◌/◌, ◌%◌, ◌^◌, Bool, false, cond, List, map, ◌==◌}
+use Rattle.std.specs.Prelude.{slice_index, slice_index_or}
 use Rattle.std.specs.List.{range_with_len}
 
 -- bit i of a number has the value 2 ^ i

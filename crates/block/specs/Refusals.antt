@@ -1,6 +1,7 @@
--- Which refusal comes: a call's checks run in the order written, and the first that fails gives its number.
--- Assumes nothing.
-use Rattle.std.specs.Prelude.{◌≡◌, ℕ, Bool, cond, List, [], ◌∷◌, Some, None, Option, Result, MatchResult}
+-- Which refusal comes: a call's checks run in the order written, and the first that fails gives its
+-- number. Assumes nothing.
+use Rattle.std.specs.Prelude.{◌≡◌, ℕ, Bool, cond, List, [], ◌∷◌, Some, None, Option, Result}
+use Rattle.std.specs.Prelude.{MatchResult}
 
 -- a check: when it refuses, and by which number
 pub record Check : Type 0 where
@@ -25,9 +26,10 @@ abbrev pub numbered : ℕ → Case
 numbered n = record { number = n; carries = Unit {0} }
 
 -- A call that refuses by these checks, and performs just where all of them pass.
--- `case_of` gives each refusal its number and its values; Done is what holds of a performed call's answer, Kept of what a
--- refusal leaves.
-abbrev pub Performs : {A E : Type 0} → List Check → (E → Case) → (A → Type 0) → Type 0 → Result A E → Type 0
+-- `case_of` gives each refusal its number and its values; Done is what holds of a performed call's
+-- answer, Kept of what a refusal leaves.
+abbrev pub Performs : {A E : Type 0}
+    → List Check → (E → Case) → (A → Type 0) → Type 0 → Result A E → Type 0
 Performs checks case_of Done Kept r =
     MatchResult r (λ x. (first_refusal checks ≡ None) × Done x)
     (λ e. (first_refusal checks ≡ Some (case_of e).number) × (case_of e).carries × Kept)

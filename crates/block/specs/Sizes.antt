@@ -1,10 +1,11 @@
 -- Sizes of a block, by the report's octets T and the check's length L in bits. Assumes nothing.
-use Rattle.std.specs.Prelude.{◌≡◌, ℕ, zero, suc, ◌+◌, ◌*◌, ◌/◌, Bool, true, false, not, ◌||◌, List, [], ◌∷◌, ◌++◌, ◌==◌, nat_lt}
+use Rattle.std.specs.Prelude.{◌≡◌, ℕ, zero, suc, ◌+◌, ◌*◌, ◌/◌, Bool, true, false, not, ◌||◌, List}
+use Rattle.std.specs.Prelude.{[], ◌∷◌, ◌++◌, ◌==◌, nat_lt}
 use Rattle.block.specs.Refusals.{Case, Check, if_refuse, numbered}
-use Rattle.block.specs.declared.SizeRefusal.{SizeRefusal}
-use Rattle.block.specs.declared.SizeRefusal.TheVariants.{Octets, CheckLength}
-use Rattle.block.specs.declared.PlanRefusal.{PlanRefusal}
-use Rattle.block.specs.declared.PlanRefusal.TheVariants.{Size, Rate, Length}
+use Rattle.block.specs.declared.sizes.SizeRefusal.{SizeRefusal}
+use Rattle.block.specs.declared.sizes.SizeRefusal.TheVariants.{Octets, CheckLength}
+use Rattle.block.specs.declared.plans.PlanRefusal.{PlanRefusal}
+use Rattle.block.specs.declared.plans.PlanRefusal.TheVariants.{Size, Rate, Length}
 
 -- a report has 1 to 512 octets
 abbrev pub octets_permitted : ℕ → Bool
@@ -21,6 +22,16 @@ rate_permitted k = not (nat_lt 24 k)
 -- N: the octets of a block, which are the report's and those of check and tail
 abbrev pub block_octets : ℕ → ℕ → ℕ
 block_octets octets check = octets + (check + 4) / 8
+
+-- the octets of the longest block, and the steps and places that belong to it
+abbrev pub most_block_octets : ℕ
+most_block_octets = block_octets 512 28
+
+abbrev pub most_steps : ℕ
+most_steps = 8 * most_block_octets
+
+abbrev pub most_places : ℕ
+most_places = 32 * most_block_octets
 
 -- P: the octets of the first payload at rate 8 / (8 + k), rounded up
 abbrev pub payload : ℕ → ℕ → ℕ → ℕ

@@ -1,4 +1,5 @@
-// Lists many captures: each line of standard input has a name, a colon and the capture's octets in hex.
+// Lists many captures: each line of standard input has a name, a colon and the capture's octets in
+// hex.
 #![tactic(auto)]
 
 use anyhow::Context;
@@ -7,7 +8,8 @@ use search::Entry;
 use std::alloc::Global;
 use std::io::{self, BufRead, BufReader, BufWriter, Write};
 
-// The octets of a capture: each word is an octet in hex, or an octet, a star and how often it stands there.
+// The octets of a capture: each word is an octet in hex, or an octet, a star and how often it
+// stands there.
 fn octets(heap: Global, words: &str) -> anyhow::Result<Vec<u8>> {
     let mut octets = Vec::new(heap);
     for word in words.split_whitespace() {

@@ -7,7 +7,7 @@ use Rattle.block.specs.Computed.{passes}
 use Rattle.block.proofs.Computed.{below}
 use Rattle.code.specs.Register.{after, cells_of, state_of, trace}
 use Rattle.code.specs.Rows.{came, octet_bits, steps_row}
-use Rattle.code.specs.declared.Row.{Row}
+use Rattle.code.specs.declared.rows.Row.{Row}
 use Rattle.code.proofs.Steps.{cells_state}
 
 -- what comes into m1, as the code works it out

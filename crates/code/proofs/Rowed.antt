@@ -10,9 +10,11 @@ use Rattle.block.proofs.Laws.{bit_alone, octet_same}
 use Rattle.block.proofs.Octets.{bit_octet}
 use Rattle.code.specs.Places.{buffer_of, column_at, output, place_bit, row_at}
 use Rattle.code.specs.Register.{Cells, after, cleared, coded, silent, tail, trace}
-use Rattle.code.specs.Rows.{AreRows, Filled, blank, buffer_octet, behind_octet, cell, first, octet_bits, steps_row, row_octet, row_output}
-use Rattle.code.specs.declared.Outputs.{Outputs}
-use Rattle.code.specs.declared.Row.{Row}
+use Rattle.code.specs.Filling.{Filled, behind_octet, buffer_octet}
+use Rattle.code.specs.Rows.{AreRows, blank, cell, first, octet_bits, steps_row, row_octet, row_output}
+use Rattle.code.specs.declared.buffer.CodedBlock.{CodedBlock}
+use Rattle.code.specs.declared.registers.Outputs.{Outputs}
+use Rattle.code.specs.declared.rows.Row.{Row}
 use Rattle.code.proofs.Runs.{after_append, coded_behind, first_split, trace_append, trace_front}
 
 -- one entry more of a list that begins with what f gives
@@ -28,18 +30,18 @@ pub more_rows : (steps : List Outputs) (rows : List Row) (n : ℕ) (y : Row) →
 unfolding AreRows
 more_rows steps rows n y within before is = more blank (steps_row steps) rows n y within before is
 
-pub more_filled : (order : List ℕ) (n : ℕ) (rows : List Row) (buffer : List ℕ) (t y : ℕ) → t < length buffer → Filled order n rows t buffer → y ≡ buffer_octet order n rows t
-    → Filled order n rows (t + 1) (set buffer t y)
+pub more_filled : (block : CodedBlock) (buffer : List ℕ) (t y : ℕ) → t < length buffer → Filled block t buffer → y ≡ buffer_octet block t
+    → Filled block (t + 1) (set buffer t y)
 unfolding Filled
-more_filled order n rows buffer t y within before is = more 0 (buffer_octet order n rows) buffer t y within before is
+more_filled block buffer t y within before is = more 0 (buffer_octet block) buffer t y within before is
 
 pub no_rows : (steps : List Outputs) (rows : List Row) → AreRows steps 0 rows
 unfolding AreRows
 no_rows steps rows b h = absurd (omega arith)
 
-pub none_filled : (order : List ℕ) (n : ℕ) (rows : List Row) (buffer : List ℕ) → Filled order n rows 0 buffer
+pub none_filled : (block : CodedBlock) (buffer : List ℕ) → Filled block 0 buffer
 unfolding Filled
-none_filled order n rows buffer b h = absurd (omega arith)
+none_filled block buffer b h = absurd (omega arith)
 
 -- a row is fixed by its eight steps
 pub row_same : (xs ys : List Outputs) (a b : ℕ) → ((i : ℕ) → i < 8 → get_or xs (8 * a + i) silent.outputs ≡ get_or ys (8 * b + i) silent.outputs) → steps_row xs a ≡ steps_row ys b
@@ -121,7 +123,16 @@ pub row_output_is : (o : ℕ) (steps : List Outputs) (r : ℕ) → row_output o 
 row_output_is o steps r = picked (eqb o 1) (eqb o 2) (eqb o 3) (λ i. get_or steps (8 * r + i) silent.outputs)
 
 -- the buffer, where its rows are those of the steps
-module _ (order : List ℕ) (n : ℕ) (steps : List Outputs) (rows : List Row) (are : AreRows steps n rows) where
+module _ (block : CodedBlock) (steps : List Outputs) (are : AreRows steps block.n block.rows.now) where
+  abbrev order : List ℕ
+  order = block.order.now.columns
+
+  abbrev n : ℕ
+  n = block.n
+
+  abbrev rows : List Row
+  rows = block.rows.now
+
   own_bit : (p : ℕ) → p < 8 * n → output 1 (get_or steps p silent.outputs) ≡ place_bit order n steps p
   unfolding place_bit
   own_bit p h =
@@ -138,18 +149,18 @@ module _ (order : List ℕ) (n : ℕ) (steps : List Outputs) (rows : List Row) (
       ∙ bit_octet (λ i. output o (get_or steps (8 * r + i) silent.outputs)) (c % 8) (omega arith)
       ∙ sym (ap (λ own. output (cond own 1 o) (get_or steps (cond own p (8 * r + c % 8)) silent.outputs)) (le-ltb p (8 * n) h))
 
-  octet_right : (b : ℕ) → 1 ≤ n → buffer_octet order n rows b ≡ octet_of (λ i. place_bit order n steps (8 * b + i))
+  octet_right : (b : ℕ) → 1 ≤ n → buffer_octet block b ≡ octet_of (λ i. place_bit order n steps (8 * b + i))
   unfolding buffer_octet AreRows
   octet_right b some =
       elim (cases_lt b n) [
-        | inl own ↦ ap (λ t. cond t (get_or rows b blank).v1 (behind_octet order n rows b)) (lt-ltb b n own)
+        | inl own ↦ ap (λ t. cond t (get_or rows b blank).v1 (behind_octet block b)) (lt-ltb b n own)
             ∙ ap (λ row. row.v1) (are b own)
             ∙ octet_same _ _ (λ i h. own_bit (8 * b + i) (omega arith))
-        | inr behind ↦ ap (λ t. cond t (get_or rows b blank).v1 (behind_octet order n rows b)) (le-ltb b n behind)
+        | inr behind ↦ ap (λ t. cond t (get_or rows b blank).v1 (behind_octet block b)) (le-ltb b n behind)
             ∙ octet_same _ _ (λ i h. behind_bit (8 * b + i) some (omega arith))
       ]
 
-  pub filled_right : (buffer : List ℕ) → 1 ≤ n → length buffer ≡ 4 * n → Filled order n rows (4 * n) buffer → buffer ≡ buffer_of order n steps
+  pub filled_right : (buffer : List ℕ) → 1 ≤ n → length buffer ≡ 4 * n → Filled block (4 * n) buffer → buffer ≡ buffer_of order n steps
   unfolding Filled
   filled_right buffer some long there =
       let f : ℕ → ℕ = λ b. octet_of (λ i. place_bit order n steps (8 * b + i)) in
@@ -158,24 +169,27 @@ module _ (order : List ℕ) (n : ℕ) (steps : List Outputs) (rows : List Row) (
       there b within ∙ octet_right b some ∙ sym (get_or-map-range_with_len f 0 (4 * n) b b 0 within (omega arith)))
 
 -- octets of the buffer, by where they lie
-pub own_octet : (order : List ℕ) (n : ℕ) (rows : List Row) (b : ℕ) → b < n → (get_or rows b blank).v1 ≡ buffer_octet order n rows b
+pub own_octet : (block : CodedBlock) (b : ℕ) → b < block.n → (get_or block.rows.now b blank).v1 ≡ buffer_octet block b
 unfolding buffer_octet
-own_octet order n rows b own = sym (ap (λ t. cond t (get_or rows b blank).v1 (behind_octet order n rows b)) (lt-ltb b n own))
+own_octet block b own = sym (ap (λ t. cond t (get_or block.rows.now b blank).v1 (behind_octet block b)) (lt-ltb b block.n own))
 
-pub octet_behind : (order : List ℕ) (n : ℕ) (rows : List Row) (b : ℕ) → n ≤ b → behind_octet order n rows b ≡ buffer_octet order n rows b
+pub octet_behind : (block : CodedBlock) (b : ℕ) → block.n ≤ b → behind_octet block b ≡ buffer_octet block b
 unfolding buffer_octet
-octet_behind order n rows b behind = sym (ap (λ t. cond t (get_or rows b blank).v1 (behind_octet order n rows b)) (le-ltb b n behind))
+octet_behind block b behind = sym (ap (λ t. cond t (get_or block.rows.now b blank).v1 (behind_octet block b)) (le-ltb b block.n behind))
 
 -- an octet behind output 1 whose bits are all of one column, from row r on
-pub in_column : (order : List ℕ) (n : ℕ) (rows : List Row) (index b r : ℕ) → n ≤ b → 8 * b ≡ 8 * n + (n * index + r) → r + 8 ≤ n
-    → octet_of (λ i. cell rows (get_or order index 0) (r + i)) ≡ buffer_octet order n rows b
-in_column order n rows index b r behind at within =
+pub in_column : (block : CodedBlock) (index b r : ℕ) → block.n ≤ b → 8 * b ≡ 8 * block.n + (block.n * index + r) → r + 8 ≤ block.n
+    → octet_of (λ i. cell block.rows.now (get_or block.order.now.columns index 0) (r + i)) ≡ buffer_octet block b
+in_column block index b r behind at within =
+    let order = block.order.now.columns in
+    let n = block.n in
+    let rows = block.rows.now in
     octet_same _ _ (λ i h.
     let q : 8 * b + i - 8 * n ≡ index * n + (r + i) = omega (arith, mul_comm n index) in
     let row : (index * n + (r + i)) / n ≡ index = div-mul-add index n (r + i) (omega arith) in
     let rest : (index * n + (r + i)) % n ≡ r + i = mod-mul-add index n (r + i) (omega arith) in
     sym ((λ j. cell rows (get_or order (q j / n) 0) (q j % n)) ∙ (λ j. cell rows (get_or order (row j) 0) (rest j))))
-    ∙ octet_behind order n rows b behind
+    ∙ octet_behind block b behind
 
 -- rows with others behind them
 pub rows_before : (steps : List Outputs) (rows others : List Row) (n : ℕ) → n ≤ length rows → AreRows steps n rows → AreRows steps n (rows ++ others)

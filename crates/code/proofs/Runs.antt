@@ -5,7 +5,7 @@ use Rattle.std.proofs.lemmas.List.{append-nil, append_assoc, get_or-append_right
 use Rattle.std.proofs.lemmas.List.Sums.{fold_push}
 use Rattle.code.specs.Register.{Cells, next, outputs, after, cleared, coded, silent, tail, trace}
 use Rattle.code.specs.Rows.{first}
-use Rattle.code.specs.declared.Outputs.{Outputs}
+use Rattle.code.specs.declared.registers.Outputs.{Outputs}
 
 pub trace_append : (m : Cells) (us vs : List Bool) → trace m (us ++ vs) ≡ trace m us ++ trace (after m us) vs
 trace_append m [] vs = refl

@@ -6,8 +6,8 @@ use Rattle.std.proofs.lemmas.Bool.{and_parts, eqb-true}
 use Rattle.block.proofs.Bools.{same_is}
 use Rattle.block.proofs.Computed.{below}
 use Rattle.code.specs.Register.{Cells, cells_of, state_of, next, outputs, same_outputs, is_step, both_steps, follows_rule, silent}
-use Rattle.code.specs.declared.Outputs.{Outputs}
-use Rattle.code.specs.declared.Step.{Step}
+use Rattle.code.specs.declared.registers.Outputs.{Outputs}
+use Rattle.code.specs.declared.trellis.Step.{Step}
 
 same_outputs_is : (x y : Outputs) → same_outputs x y ≡ true → x ≡ y
 same_outputs_is x y e =

@@ -1,5 +1,6 @@
 -- Column orders. Assumes nothing.
-use Rattle.std.specs.Prelude.{ℕ, zero, suc, ◌+◌, ◌-◌, ◌%◌, Bool, true, cond, ◌&&◌, List, [], ◌∷◌, ◌++◌, map, length, ◌==◌, nat_lt, slice_index}
+use Rattle.std.specs.Prelude.{ℕ, zero, suc, ◌+◌, ◌-◌, ◌%◌, Bool, true, cond, ◌&&◌, List, [], ◌∷◌}
+use Rattle.std.specs.Prelude.{◌++◌, map, length, ◌==◌, nat_lt, slice_index}
 use Rattle.std.specs.Bool.{beq}
 use Rattle.block.specs.Bits.{bit}
 use Rattle.block.specs.Computed.{passes}
@@ -35,8 +36,9 @@ eight = 0 ∷ 4 ∷ 2 ∷ 6 ∷ 1 ∷ 5 ∷ 3 ∷ 7 ∷ []
 abbrev pub order_r : List ℕ
 order_r = eight ++ (map (λ a. a + 8) eight ++ map (λ a. a + 16) eight)
 
--- The puncturing table of the standard, its rows for the outputs 2, 3 and 4: entry k of a row is the mask of the columns
--- that the rate 8 / (8 + k) keeps of that output. The highest bit of a mask is the first of its eight columns.
+-- The puncturing table of the standard, its rows for the outputs 2, 3 and 4: entry k of a row is
+-- the mask of the columns that the rate 8 / (8 + k) keeps of that output. The highest bit of a mask
+-- is the first of its eight columns.
 abbrev pub masks_2 : List ℕ
 masks_2 =
     0x00 ∷ 0x80 ∷ 0x88 ∷ 0xa8 ∷ 0xaa ∷ 0xea ∷ 0xee ∷ 0xfe ∷ 0xff ∷ 0xff ∷ 0xff ∷ 0xff ∷ 0xff ∷
@@ -52,9 +54,13 @@ masks_4 =
     0x00 ∷ 0x00 ∷ 0x00 ∷ 0x00 ∷ 0x00 ∷ 0x00 ∷ 0x00 ∷ 0x00 ∷ 0x00 ∷ 0x00 ∷ 0x00 ∷ 0x00 ∷ 0x00 ∷
     0x00 ∷ 0x00 ∷ 0x00 ∷ 0x00 ∷ 0x80 ∷ 0x88 ∷ 0xa8 ∷ 0xaa ∷ 0xea ∷ 0xee ∷ 0xfe ∷ 0xff ∷ []
 
+-- the masks for the output that column a belongs to
+abbrev pub masks_for : ℕ → List ℕ
+masks_for a = cond (nat_lt a 8) masks_2 (cond (nat_lt a 16) masks_3 masks_4)
+
 -- the rate 8 / (8 + k) keeps column a
 abbrev pub keeps : ℕ → ℕ → Bool
-keeps k a = bit (7 - a % 8) (slice_index (cond (nat_lt a 8) masks_2 (cond (nat_lt a 16) masks_3 masks_4)) k)
+keeps k a = bit (7 - a % 8) (slice_index (masks_for a) k)
 
 -- each rate keeps just the columns that stand at the first k indices of the order
 unfoldable pub follows_masks : List ℕ → Bool

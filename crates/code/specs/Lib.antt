@@ -1,5 +1,8 @@
 pub mod Register
 pub mod Rows
+pub mod Messages
+pub mod Filling
 pub mod Columns
 pub mod Places
 pub mod Calls
+pub mod Shapes

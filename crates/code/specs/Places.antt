@@ -1,10 +1,12 @@
--- Where each coded bit stands in the buffer. N is the octets of a block, so the block has 8 * N steps and the buffer
--- 32 * N places in 4 * N octets; place 8 * b + i is bit i + 1 of octet b. Assumes nothing.
-use Rattle.std.specs.Prelude.{ℕ, ◌+◌, ◌-◌, ◌*◌, ◌/◌, ◌%◌, Bool, cond, List, ◌==◌, nat_lt, slice_index, slice_index_or}
+-- Where each coded bit stands in the buffer. N is the octets of a block, so the block has 8 * N
+-- steps and the buffer 32 * N places in 4 * N octets; place 8 * b + i is bit i + 1 of octet b.
+-- Assumes nothing.
+use Rattle.std.specs.Prelude.{ℕ, ◌+◌, ◌-◌, ◌*◌, ◌/◌, ◌%◌, Bool, cond, List, ◌==◌, nat_lt}
+use Rattle.std.specs.Prelude.{slice_index, slice_index_or}
 use Rattle.block.specs.Bits.{octets_of}
 use Rattle.code.specs.Columns.{index_of}
 use Rattle.code.specs.Register.{silent}
-use Rattle.code.specs.declared.Outputs.{Outputs}
+use Rattle.code.specs.declared.registers.Outputs.{Outputs}
 
 -- Behind the 8 * N places of output 1 stand the columns in their order, N rows each.
 abbrev pub column_at : List ℕ → ℕ → ℕ → ℕ
@@ -26,7 +28,8 @@ output o v = cond (o == 1) v.v1 (cond (o == 2) v.v2 (cond (o == 3) v.v3 v.v4))
 
 -- the bit at place p, where `steps` are the outputs of a block's steps
 unfoldable pub place_bit : List ℕ → ℕ → List Outputs → ℕ → Bool
-place_bit order n steps p = output (output_at order n p) (slice_index_or steps (step_at order n p) silent.outputs)
+place_bit order n steps p =
+    output (output_at order n p) (slice_index_or steps (step_at order n p) silent.outputs)
 
 -- the buffer of a block
 abbrev pub buffer_of : List ℕ → ℕ → List Outputs → List ℕ

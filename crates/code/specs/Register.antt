@@ -1,11 +1,12 @@
 -- The shift register of the code, by its rule. Assumes nothing.
-use Rattle.std.specs.Prelude.{ℕ, zero, suc, ◌+◌, ◌*◌, Bool, true, false, not, ◌&&◌, List, [], ◌∷◌, ◌++◌, fold, ◌==◌, slice_index_or}
+use Rattle.std.specs.Prelude.{ℕ, zero, suc, ◌+◌, ◌*◌, Bool, true, false, not, ◌&&◌, List, [], ◌∷◌}
+use Rattle.std.specs.Prelude.{◌++◌, fold, ◌==◌, slice_index_or}
 use Rattle.std.specs.Bool.{beq}
 use Rattle.block.specs.Bits.{bit, value}
 use Rattle.block.specs.Computed.{passes}
-use Rattle.code.specs.declared.Outputs.{Outputs}
-use Rattle.code.specs.declared.Register.{Register}
-use Rattle.code.specs.declared.Step.{Step}
+use Rattle.code.specs.declared.registers.Outputs.{Outputs}
+use Rattle.code.specs.declared.registers.Register.{Register}
+use Rattle.code.specs.declared.trellis.Step.{Step}
 
 infixr 65 ◌⊕◌
 -- the sum modulo 2
@@ -82,14 +83,17 @@ same_outputs x y =
 
 -- an entry of a table of steps is the register's step from state s at the bit u
 abbrev pub is_step : Step → ℕ → Bool → Bool
-is_step x s u = same_outputs x.outputs (outputs (cells_of s) u) && x.next == state_of (next (cells_of s) u)
+is_step x s u =
+    same_outputs x.outputs (outputs (cells_of s) u) && x.next == state_of (next (cells_of s) u)
 
 -- what stands where a table has no entry
 abbrev pub silent : Step
 silent = record { outputs = record { v1 = false; v2 = false; v3 = false; v4 = false }; next = 0 }
 
 abbrev pub both_steps : List Step → ℕ → Bool
-both_steps table s = is_step (slice_index_or table (2 * s + 0) silent) s false && is_step (slice_index_or table (2 * s + 1) silent) s true
+both_steps table s =
+    is_step (slice_index_or table (2 * s + 0) silent) s false
+    && is_step (slice_index_or table (2 * s + 1) silent) s true
 
 -- entry 2 * s + u of a table is the step from state s at the bit u, for each of the 16 states
 unfoldable pub follows_rule : List Step → Bool

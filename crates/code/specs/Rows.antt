@@ -1,11 +1,13 @@
--- A block by the octets of its outputs: how the code goes about it. No promise of a public call rests on this. Assumes nothing.
-use Rattle.std.specs.Prelude.{◌≡◌, ℕ, ◌+◌, ◌-◌, ◌*◌, ◌/◌, ◌%◌, ◌<◌, ◌≤◌, Bool, cond, List, [], ◌∷◌, length, map, take, ◌==◌, nat_lt, slice_index, slice_index_or}
+-- A block by the octets of its outputs: how the code goes about it. No promise of a public call
+-- rests on this. Assumes nothing.
+use Rattle.std.specs.Prelude.{◌≡◌, ℕ, ◌+◌, ◌*◌, ◌/◌, ◌%◌, ◌<◌, ◌≤◌, Bool, cond, List, [], ◌∷◌}
+use Rattle.std.specs.Prelude.{length, map, take, ◌==◌, slice_index, slice_index_or}
 use Rattle.std.specs.List.{range_with_len}
 use Rattle.block.specs.Bits.{bit, bits_of, octet_of}
 use Rattle.code.specs.Places.{output}
 use Rattle.code.specs.Register.{after, cells_of, silent}
-use Rattle.code.specs.declared.Outputs.{Outputs}
-use Rattle.code.specs.declared.Row.{Row}
+use Rattle.code.specs.declared.registers.Outputs.{Outputs}
+use Rattle.code.specs.declared.rows.Row.{Row}
 
 -- the first t bits that f gives
 abbrev pub first : (ℕ → Bool) → ℕ → List Bool
@@ -25,7 +27,12 @@ row_octet o steps b = octet_of (λ i. output o (slice_index_or steps (8 * b + i)
 
 -- the outputs of the eight steps of octet b
 abbrev pub steps_row : List Outputs → ℕ → Row
-steps_row steps b = record { v1 = row_octet 1 steps b; v2 = row_octet 2 steps b; v3 = row_octet 3 steps b; v4 = row_octet 4 steps b }
+steps_row steps b = record {
+  v1 = row_octet 1 steps b;
+  v2 = row_octet 2 steps b;
+  v3 = row_octet 3 steps b;
+  v4 = row_octet 4 steps b;
+}
 
 -- what stands where there is no row
 abbrev pub blank : Row
@@ -39,23 +46,15 @@ AreRows steps n rows = (b : ℕ) → b < n → slice_index_or rows b blank ≡ s
 abbrev pub row_output : ℕ → Row → ℕ
 row_output o r = cond (o == 1) r.v1 (cond (o == 2) r.v2 (cond (o == 3) r.v3 r.v4))
 
+-- output o of row b
+abbrev pub output_octet : ℕ → List Row → ℕ → ℕ
+output_octet o rows b = row_output o (slice_index_or rows b blank)
+
 -- the first n octets of a band are output o of the rows
 abbrev pub IsBand : ℕ → ℕ → List Row → List ℕ → Type 0
-IsBand o n rows band = (n ≤ length band) × ((b : ℕ) → b < n → slice_index band b ≡ row_output o (slice_index_or rows b blank))
+IsBand o n rows band =
+    (n ≤ length band) × ((b : ℕ) → b < n → slice_index band b ≡ output_octet o rows b)
 
 -- the bit in a row of a column
 abbrev pub cell : List Row → ℕ → ℕ → Bool
-cell rows column row = bit (column % 8) (row_output (column / 8 + 2) (slice_index_or rows row blank))
-
--- an octet of the buffer that lies behind output 1
-abbrev pub behind_octet : List ℕ → ℕ → List Row → ℕ → ℕ
-behind_octet order n rows b =
-    octet_of (λ i. cell rows (slice_index order ((8 * b + i - 8 * n) / n)) ((8 * b + i - 8 * n) % n))
-
--- octet b of the buffer
-unfoldable pub buffer_octet : List ℕ → ℕ → List Row → ℕ → ℕ
-buffer_octet order n rows b = cond (nat_lt b n) (slice_index_or rows b blank).v1 (behind_octet order n rows b)
-
--- the first t octets of the buffer are there
-unfoldable pub Filled : List ℕ → ℕ → List Row → ℕ → List ℕ → Type 0
-Filled order n rows t buffer = (b : ℕ) → b < t → slice_index buffer b ≡ buffer_octet order n rows b
+cell rows column row = bit (column % 8) (output_octet (column / 8 + 2) rows row)

@@ -1,15 +1,25 @@
 // Encoding a report into the caller's buffer.
 ghost use Rattle.std.specs.Prelude.{◌≡◌, ◌*◌, length};
-ghost use Rattle.block.specs.Checks.{report_message};
 ghost use Rattle.block.specs.Sizes.{block_octets};
-ghost use Rattle.code.specs.Places.{buffer_of};
-ghost use Rattle.code.specs.Calls.{encode_case, EncodeDoes};
-ghost use Rattle.code.specs.Register.{coded};
+ghost use Rattle.code.specs.Calls.{Encodes, encode_case, encoded_as};
+ghost use Rattle.code.specs.Shapes.{shape_with};
 
-use crate::coded::{CodedBlock, MOST_OCTETS, band_of};
+use crate::Order;
+use crate::buffer::{CodedBlock, band_of};
 use crate::message::Message;
-use crate::{EncodeRefusal, Order, Row};
-use block::Size;
+use crate::rows::Row;
+use block::{MOST_BLOCK_OCTETS, Size, SizeRefusal};
+use thiserror::Error;
+
+// Why a report is not encoded.
+#[derive(Clone, Copy, Debug, PartialEq, Error)]
+pub enum EncodeRefusal {
+    #[error("{0}")]
+    Size(SizeRefusal),
+    // 6
+    #[error("the buffer has under 4 * N octets")]
+    Buffer,
+}
 
 impl EncodeRefusal {
     pub fn number(self) -> u8
@@ -26,10 +36,10 @@ impl EncodeRefusal {
 // Encodes a report into a buffer of 4 * N octets.
 fn encode_block(size: Size, report: &[u8], order: &Order, buffer: &mut [u8])
     requires { length buffer.old ≡ 4 * block_octets size.octets size.check }
-    ensures { buffer.new ≡ buffer_of order.now.columns (block_octets size.octets size.check) (coded (report_message report.now size.octets size.check)) }
+    ensures { buffer.new ≡ encoded_as (shape_with size order.now) report.now }
 {
     let n = size.block_octets();
-    let mut rows = [Row::default(); MOST_OCTETS];
+    let mut rows = [Row::default(); MOST_BLOCK_OCTETS];
     Message::new(size, report).code(&mut rows[..n]);
     let block = CodedBlock {
         order,
@@ -49,7 +59,7 @@ pub fn encode_report(
     order: &Order,
     buffer: &mut [u8],
 ) -> Result<(), EncodeRefusal>
-    ensures { EncodeDoes report.now check order.now.columns buffer.old buffer.new result }
+    ensures { Encodes report.now check order.now.columns buffer.old buffer.new result }
 {
     let size = Size::new(report.len(), check).map_err(EncodeRefusal::Size)?;
     let room = 4 * size.block_octets();

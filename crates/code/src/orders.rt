@@ -1,10 +1,34 @@
 // Column orders.
 ghost use Rattle.std.specs.Prelude.{◌≡◌, true};
 ghost use Rattle.block.specs.Refusals.{Answers};
-ghost use Rattle.code.specs.Columns.{all_below, count_of, each_once, follows_masks, index_of, is_order, order_r};
-ghost use Rattle.code.specs.Calls.{order_checks, order_case};
+ghost use Rattle.code.specs.Columns.{all_below, count_of, each_once, follows_masks, index_of};
+ghost use Rattle.code.specs.Columns.{is_order, order_r};
 
-use crate::{Order, OrderRefusal};
+use thiserror::Error;
+
+// Why no column order can be made, and the number of the refusal.
+#[derive(Clone, Copy, Debug, PartialEq, Error)]
+pub enum OrderRefusal {
+    #[error("a column order lists 24 columns, each of 0 to 23 once")]
+    Columns = 4,
+}
+
+impl OrderRefusal {
+    ghost use Rattle.code.specs.Calls.{order_case};
+
+    pub fn number(self) -> u8
+        ensures { result ≡ (order_case self).number }
+    {
+        self as u8
+    }
+}
+
+// The order in which the 24 columns fill the buffer behind output 1.
+#[derive(Clone, Copy, Debug)]
+pub struct Order {
+    pub(crate) columns: [u8; 24],
+    ghost each: { is_order columns ≡ true },
+}
 
 // How often `column` stands among the numbers.
 fn count(numbers: &[u8], column: u8) -> usize
@@ -32,15 +56,9 @@ fn is_order(numbers: &[u8; 24]) -> bool
     all_columns(numbers) && lists_each_once(numbers)
 }
 
-impl OrderRefusal {
-    pub fn number(self) -> u8
-        ensures { result ≡ (order_case self).number }
-    {
-        self as u8
-    }
-}
-
 impl Order {
+    ghost use Rattle.code.specs.Calls.{order_case, order_checks};
+
     const R: Order = Order {
         columns: [
             0, 4, 2, 6, 1, 5, 3, 7, 8, 12, 10, 14, 9, 13, 11, 15, 16, 20, 18, 22, 17, 21, 19, 23,
@@ -56,7 +74,8 @@ impl Order {
         Order::R
     }
 
-    // Order S: each rate of the puncturing table keeps the first columns of this order. It turns out to be order R.
+    // Order S: each rate of the puncturing table keeps the first columns of this order. It turns
+    // out to be order R.
     pub fn order_s() -> Order
         ensures masks { follows_masks result.columns ≡ true }
         ensures is { result.columns ≡ order_r }
@@ -65,7 +84,8 @@ impl Order {
     }
 
     pub fn new(numbers: &[u8]) -> Result<Order, OrderRefusal>
-        ensures { Answers (order_checks numbers.now) order_case (λ o. o.columns ≡ numbers.now) result }
+        ensures { Answers (order_checks numbers.now) order_case
+            (λ order. order.columns ≡ numbers.now) result }
     {
         match <[u8; 24]>::try_from(numbers) {
             Ok(columns) if is_order(&columns) => Ok(Order { columns }),
@@ -73,8 +93,8 @@ impl Order {
         }
     }
 
-    // The index at which a column stands; behind the last where there is no such column. No `Option`, since it is defined so,
-    // and each column of the 24 has one.
+    // The index at which a column stands; behind the last where there is no such column. No
+    // `Option`, since it is defined so, and each column of the 24 has one.
     pub fn index_of(&self, column: u8) -> usize
         ensures { result ≡ index_of column self.now.columns }
     {

@@ -1,10 +1,18 @@
-// The register and the 32 steps that it can make.
+// The 32 steps that the register can make, looked up.
 ghost use Rattle.std.specs.Prelude.{◌≡◌, ◌<◌, true};
-ghost use Rattle.code.specs.Register.{after, cells, cells_of, state_of, cleared, feedback as feed, follows_rule, next, outputs, tail, trace};
+ghost use Rattle.code.specs.Register.{cells_of, feedback as feed, follows_rule, next, outputs};
+ghost use Rattle.code.specs.Register.{state_of};
 
+use crate::Outputs;
 use crate::table::TRELLIS;
-use crate::{Outputs, Register, Step};
 use block::bit_of;
+
+// One step of the register: what it answers, and the state that it leads to.
+#[derive(Clone, Copy, Debug, PartialEq)]
+pub struct Step {
+    pub outputs: Outputs,
+    pub next: u8,
+}
 
 // The step from a state at a bit, from a table that follows the register's rule.
 fn step_of(table: &[Step; 32], state: u8, bit: bool) -> Step
@@ -29,46 +37,4 @@ pub fn feedback(state: u8) -> bool
 {
     let state = u32::from(state);
     bit_of(state, 0) ^ (bit_of(state, 2) ^ bit_of(state, 3))
-}
-
-impl Register {
-    pub fn open() -> Register
-        ensures { cells result ≡ cleared }
-    {
-        Register { state: 0 }
-    }
-
-    // Takes one bit and answers the four outputs.
-    pub fn push(&mut self, bit: bool) -> Outputs
-        ensures answer { result ≡ outputs (cells self.old) bit }
-        ensures after { cells self.new ≡ next (cells self.old) bit }
-    {
-        let step = step_from(self.state, bit);
-        self.state = step.next;
-        step.outputs
-    }
-
-    fn push_feedback(&mut self) -> Outputs
-        ensures answer { result ≡ outputs (cells self.old) (feed (cells self.old)) }
-        ensures after { cells self.new ≡ next (cells self.old) (feed (cells self.old)) }
-    {
-        let bit = feedback(self.state);
-        self.push(bit)
-    }
-
-    // Feeds the four tail bits, after which every cell is 0, and answers their outputs. The register is spent.
-    pub fn close(mut self) -> [Outputs; 4]
-        ensures answer { result ≡ trace (cells self) (tail (cells self)) }
-        ensures clears { after (cells self) (tail (cells self)) ≡ cleared }
-    {
-        // Written out, since a closure that pushes would hide that each call finds another state.
-        let outputs = [
-            self.push_feedback(),
-            self.push_feedback(),
-            self.push_feedback(),
-            self.push_feedback(),
-        ];
-        let Register { state: _ } = self;
-        outputs
-    }
 }

@@ -1,6 +1,6 @@
 // Reports of one octet with a check of four bits: what is heard of them, and what is named.
 use code::Order;
-use search::{Entry, FindRefusal};
+use search::{Entry, FindRefusal, Scratch};
 use sheet::Sheet;
 use std::test::Fail;
 use weighing::Reading;
@@ -21,10 +21,14 @@ fn named<R: Reading>(
     octets: &[u8],
 ) -> Option<(u8, R::Value)> {
     let mut sheet = Sheet::<R>::open(1, 4, Order::order_r(), tally).ok()?;
-    let _count = sheet.take(tally, 0, octets).ok()?;
+    let _taken = sheet.take(tally, 0, octets).ok()?;
     let mut target = [0; 2];
-    let found = sheet.decode(tally, &mut target, &mut [0; 16], paths).ok()?;
-    Some((target[0], found.weight))
+    let mut scratch = Scratch {
+        survivors: &mut [0; 16],
+        paths,
+    };
+    let decoded = sheet.decode(tally, &mut target, &mut scratch).ok()?;
+    Some((target[0], decoded.weight))
 }
 
 #[test]
@@ -50,15 +54,19 @@ fn levels(rt: HostRuntime) {
         named::<Soft>(&mut soft, &mut [None; 32], &symbols),
         Some((0, 9))
     );
-    let found = named::<Worst>(&mut worst, &mut [None; 32], &symbols);
-    assert_eq!(rt; found.map(|(_octet, weight)| weight), Some(4));
+    let named = named::<Worst>(&mut worst, &mut [None; 32], &symbols);
+    assert_eq!(rt; named.map(|(_octet, weight)| weight), Some(4));
 }
 
 #[test]
 fn too_little_room(rt: HostRuntime) -> Result<(), Fail> {
     let mut tally = [Entry { zero: 0, one: 0 }; 64];
     let sheet = Sheet::<Worst>::open(1, 4, Order::order_r(), &mut tally)?;
-    let found = sheet.decode(&tally, &mut [0; 1], &mut [0; 16], &mut [None; 32]);
-    assert_eq!(rt; found.err(), Some(FindRefusal::Short));
+    let mut scratch = Scratch {
+        survivors: &mut [0; 16],
+        paths: &mut [None; 32],
+    };
+    let decoded = sheet.decode(&tally, &mut [0; 1], &mut scratch);
+    assert_eq!(rt; decoded.err(), Some(FindRefusal::Short));
     Ok(())
 }

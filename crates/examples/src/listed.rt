@@ -8,7 +8,8 @@ use weighing::hard::Hard;
 use weighing::soft::Soft;
 use weighing::worst::Worst;
 
-// A capture that opens a sheet for one octet and four check bits, and another that begins with no letter.
+// A capture that opens a sheet for one octet and four check bits, and another that begins with no
+// letter.
 const OPENING: [u8; 5] = [b'H', 1, 1, 0, 4];
 
 const NO_LETTER: [u8; 5] = [b'h', 1, 1, 0, 4];

@@ -1,7 +1,7 @@
 // What an order and a sheet refuse, and what a refused take leaves.
 use code::{Order, OrderRefusal};
 use search::Entry;
-use sheet::{Sheet, TakeRefusal, WipeRefusal};
+use sheet::{Sheet, TakeRefusal, Taken, WipeRefusal};
 use std::test::Fail;
 use weighing::hard::Hard;
 
@@ -23,7 +23,8 @@ fn orders(rt: HostRuntime) -> Result<(), Fail> {
     Ok(())
 }
 
-// The checks of a take, each where those before it pass; of the 64 places a refused take writes none.
+// The checks of a take, each where those before it pass; of the 64 places a refused take writes
+// none.
 #[test]
 fn takes(rt: HostRuntime) -> Result<(), Fail> {
     let mut tally = [EMPTY; 64];
@@ -45,7 +46,10 @@ fn takes(rt: HostRuntime) -> Result<(), Fail> {
     );
     assert_eq!(rt; sheet.wipe(&mut [EMPTY; 63]), Err(WipeRefusal::Tally));
     assert_eq!(rt; (sheet.count(), tally[56].zero), (0, 0));
-    assert_eq!(rt; sheet.take(&mut tally, 7, &[1; 64]), Ok(64));
+    assert_eq!(rt;
+        sheet.take(&mut tally, 7, &[1; 64]),
+        Ok(Taken { total: 64 })
+    );
     assert_eq!(rt; tally[55].zero, 1);
     Ok(())
 }
@@ -57,11 +61,11 @@ fn full(rt: HostRuntime) -> Result<(), Fail> {
     let mut sheet = Sheet::<Hard>::open(1, 4, Order::order_r(), &mut tally)?;
     let zeros = [0; 64];
     for _ in 0..16_384 {
-        let _total = sheet.take(&mut tally, 0, &zeros)?;
+        let _taken = sheet.take(&mut tally, 0, &zeros)?;
     }
     assert_eq!(rt; tally[0].one, 16_384);
     assert_eq!(rt; sheet.take(&mut tally, 0, &[3; 8]), Err(TakeRefusal::Full));
     sheet.wipe(&mut tally)?;
-    assert_eq!(rt; sheet.take(&mut tally, 0, &zeros), Ok(64));
+    assert_eq!(rt; sheet.take(&mut tally, 0, &zeros), Ok(Taken { total: 64 }));
     Ok(())
 }

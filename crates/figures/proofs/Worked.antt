@@ -1,5 +1,5 @@
 -- Each figure of the table, by computing. Assumes nothing.
-use Rattle.std.proofs.Common.{◌≡◌, ℕ, true, List, refl, arith}
+use Rattle.std.proofs.Common.{refl, arith}
 use Rattle.block.specs.Bits.{bit_at, octet_of}
 use Rattle.block.specs.Checks.{extended}
 use Rattle.block.specs.Sizes.{OnlySize, some_size}

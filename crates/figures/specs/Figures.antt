@@ -1,6 +1,7 @@
--- The worked figures, and what each says of the rules: by the definitions that the contracts of the calls cite.
--- Assumes nothing.
-use Rattle.std.specs.Prelude.{◌≡◌, ℕ, ◌-◌, Bool, true, List, [], ◌∷◌, ◌++◌, length, drop, is_none, Some, None}
+-- The worked figures, and what each says of the rules: by the definitions that the contracts of the
+-- calls cite. Assumes nothing.
+use Rattle.std.specs.Prelude.{◌≡◌, ℕ, ◌-◌, Bool, true, List, [], ◌∷◌, ◌++◌, length, drop, is_none}
+use Rattle.std.specs.Prelude.{Some, None}
 use Rattle.std.specs.List.{list_all}
 use Rattle.block.specs.Bits.{bit, bits_of}
 use Rattle.block.specs.Checks.{check_of}
@@ -9,16 +10,18 @@ use Rattle.block.specs.Sizes.{OnlySize, back_checks, payload, plan_checks, size_
 use Rattle.code.specs.Calls.{encode_checks, encoded}
 use Rattle.code.specs.Columns.{order_r}
 use Rattle.code.specs.Register.{coded}
-use Rattle.code.specs.declared.Outputs.{Outputs}
+use Rattle.code.specs.declared.registers.Outputs.{Outputs}
 use Rattle.sender.specs.Passages.{copy_checks, onward, passing, round_of, sent}
 use Rattle.figures.specs.declared.Figure.{Figure}
-use Rattle.figures.specs.declared.Figure.TheVariants.{Closing, Check, Buffer, Passages, Payload, Back, BackRefused}
+use Rattle.figures.specs.declared.Figure.TheVariants.{Closing, Check, Buffer, Passages, Payload}
+use Rattle.figures.specs.declared.Figure.TheVariants.{Back, BackRefused}
 
 -- the octets of a report's buffer, in order R
 abbrev buffer_r : ℕ → ℕ → List ℕ
 buffer_r report check = encoded (report ∷ []) check order_r
 
--- where a sender of a report of one octet stands after a passage from octet `start` on that copies so many octets and is confirmed
+-- where a sender of a report of one octet stands after a passage from octet `start` on that copies
+-- so many octets and is confirmed
 abbrev behind : ℕ → ℕ → ℕ → ℕ
 behind check start count = (onward (passing 1 check start start) count).cursor
 
@@ -26,11 +29,14 @@ behind check start count = (onward (passing 1 check start start) count).cursor
 abbrev pub confirmed : List ℕ → ℕ → ℕ → List ℕ → List ℕ
 confirmed buffer check start [] = []
 confirmed buffer check start (count ∷ counts) =
-    sent buffer (round_of 1 check) start count ++ confirmed buffer check (behind check start count) counts
+    sent buffer (round_of 1 check) start count
+    ++ confirmed buffer check (behind check start count) counts
 
 -- each copy is performed, into a target of its own length
 abbrev pub performed : List ℕ → ℕ → List ℕ → Bool
-performed buffer check counts = list_all (λ count. is_none (first_refusal (copy_checks (round_of 1 check) (length buffer) count count))) counts
+performed buffer check counts =
+    let round = round_of 1 check in
+    list_all (λ n. is_none (first_refusal (copy_checks round (length buffer) n n))) counts
 
 -- the last three octets
 abbrev last_three : List ℕ → List ℕ
@@ -39,12 +45,19 @@ last_three octets = drop (length octets - 3) octets
 -- what a figure says
 abbrev pub Holds : Figure → Type 0
 Holds (Closing bit outputs) = coded (bit ∷ []) ≡ outputs
-Holds (Check report check field) = (first_refusal (size_checks 1 check) ≡ None) × (check_of check (bits_of (report ∷ []) 8) ≡ field)
-Holds (Buffer report check buffer) = (first_refusal (encode_checks 1 check (length buffer)) ≡ None) × (buffer_r report check ≡ buffer)
+Holds (Check report check field) =
+    (first_refusal (size_checks 1 check) ≡ None)
+    × (check_of check (bits_of (report ∷ []) 8) ≡ field)
+Holds (Buffer report check buffer) =
+    (first_refusal (encode_checks 1 check (length buffer)) ≡ None)
+    × (buffer_r report check ≡ buffer)
 Holds (Passages report check counts last) =
-    (performed (buffer_r report check) check counts ≡ true) × (last_three (confirmed (buffer_r report check) check 0 counts) ≡ last)
-Holds (Payload octets check k p) = (first_refusal (plan_checks octets check k) ≡ None) × (payload octets check k ≡ p)
-Holds (Back p check k octets) = (first_refusal (back_checks p check k) ≡ None) × OnlySize p check k octets
+    (performed (buffer_r report check) check counts ≡ true)
+    × (last_three (confirmed (buffer_r report check) check 0 counts) ≡ last)
+Holds (Payload octets check k p) =
+    (first_refusal (plan_checks octets check k) ≡ None) × (payload octets check k ≡ p)
+Holds (Back p check k octets) =
+    (first_refusal (back_checks p check k) ≡ None) × OnlySize p check k octets
 Holds (BackRefused p check k refusal) = first_refusal (back_checks p check k) ≡ Some refusal
 
 -- four outputs as one number, output 1 highest
@@ -54,8 +67,10 @@ outputs_of v = record { v1 = bit 3 v; v2 = bit 2 v; v3 = bit 1 v; v4 = bit 0 v }
 -- the table
 abbrev pub worked : List Figure
 worked =
-    Closing true (outputs_of 0b1111 ∷ outputs_of 0b1001 ∷ outputs_of 0b1010 ∷ outputs_of 0b0111 ∷ outputs_of 0b1111 ∷ [])
-    ∷ Check 0x80 4 0b1101 ∷ Check 0x01 4 0b1101 ∷ Check 0x81 4 0b0000 ∷ Check 0x80 12 0b1000_0000_1111
+    Closing true (outputs_of 0b1111 ∷ outputs_of 0b1001 ∷ outputs_of 0b1010
+    ∷ outputs_of 0b0111 ∷ outputs_of 0b1111 ∷ [])
+    ∷ Check 0x80 4 0b1101 ∷ Check 0x01 4 0b1101 ∷ Check 0x81 4 0b0000
+    ∷ Check 0x80 12 0b1000_0000_1111
     ∷ Buffer 0x80 4 (0x80 ∷ 0x0b ∷ 0x20 ∷ 0x60 ∷ 0x20 ∷ 0x62 ∷ 0x22 ∷ 0x60 ∷ [])
     ∷ Passages 0x80 4 (4 ∷ 3 ∷ 3 ∷ []) (0x60 ∷ 0x80 ∷ 0x0b ∷ [])
     ∷ Payload 1 4 5 4 ∷ Payload 1 4 16 6 ∷ Payload 47 20 2 63 ∷ Payload 512 28 24 2064

@@ -8,7 +8,8 @@ mod tests;
 use code::Outputs;
 pub use table::worked_figures;
 
-// A worked figure: what is asked, and what comes of it. A report that is handed has one octet, and buffers are in order R.
+// A worked figure: what is asked, and what comes of it. A report that is handed has one octet, and
+// buffers are in order R.
 #[derive(Clone, Copy, Debug, PartialEq)]
 pub enum Figure {
     // a bit for a new register, and the outputs of its step and of the four tail steps
@@ -28,7 +29,8 @@ pub enum Figure {
         check: usize,
         buffer: [u8; 8],
     },
-    // a report, L, how many octets three passages copy that are confirmed, and the last three octets of all that they copy
+    // a report, L, how many octets three passages copy that are confirmed, and the last three
+    // octets of all that they copy
     Passages {
         report: u8,
         check: usize,

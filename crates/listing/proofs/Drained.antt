@@ -2,88 +2,88 @@
 use Rattle.std.proofs.Common.{◌≡◌, ℕ, ◌≤◌, Bool, true, false, cond, nat_lt, List, [], ◌∷◌, map, length, Some, None, Option, MatchBool, refl, sym, ap, ◌∙◌, subst, arith}
 use Rattle.std.specs.Iterator.{YieldsThen}
 use Rattle.std.proofs.lemmas.Bool.Decides.{nat_tests}
-use Rattle.code.specs.Columns.{order_r}
-use Rattle.weighing.specs.Scales.{Scale}
+use Rattle.weighing.specs.Alphabets.{Alphabet}
 use Rattle.weighing.specs.declared.Weighing.{Ghosts}
-use Rattle.listing.specs.Captures.{is_letter, left, most_octets}
+use Rattle.listing.specs.Captures.{acts_left, is_letter, letter_layout, most_capture_octets}
 use Rattle.listing.specs.Carrying.{Stands}
-use Rattle.listing.specs.Lines.{Told, a_fault, tells, the_end}
-use Rattle.listing.specs.Listings.{InForce, IsListing, RecordsTell, TallyHolds}
-use Rattle.listing.specs.Owed.{Gives, Owes, OwesAt, Records}
-use Rattle.listing.specs.declared.Fault.TheVariants.{Letter, TooLong as too_long}
-use Rattle.listing.specs.declared.Line.{Line}
-use Rattle.listing.specs.declared.Lines.{Lines}
-use Rattle.listing.specs.declared.Stage.TheVariants.{NoLetter, Reading, TooLong}
-use Rattle.nearest.proofs.Keeping.{run_kept}
-use Rattle.listing.proofs.Owing.{cast, owed_at, owed_others}
+use Rattle.listing.specs.InForce.{InForce}
+use Rattle.listing.specs.Lines.{LineContent, content, end_line, fault_line}
+use Rattle.listing.specs.Listings.{RecordsTell, TallyHolds}
+use Rattle.listing.specs.Remaining.{Gives, RecordsRemain, Remaining, RemainingAt, room_of}
+use Rattle.listing.specs.Whole.{AreListed}
+use Rattle.listing.specs.declared.faults.Fault.TheVariants.{Letter, TooLong as too_long}
+use Rattle.listing.specs.declared.layouts.Layout.{Layout}
+use Rattle.listing.specs.declared.lines.Line.{Line}
+use Rattle.listing.specs.declared.telling.Lines.{Lines}
+use Rattle.listing.specs.declared.telling.Stage.TheVariants.{NoLetter, Reading, TooLong}
+use Rattle.listing.proofs.Stepping.{cast, others_tell, remaining_at}
 
-module _ {V A : Type 0} (W : Type 0) (g : Ghosts W V) (s : Scale V) (reads : ℕ → Option A) (against : A → Bool → V) where
-  -- What the lines told so far leave: what is in force then, that no line is owed, and what became of the tally.
-  record Told-out (told : List (Line V)) (lines last : Lines W V g) (force : Option InForce) : Type 0 where
+module _ {W V A : Type 0} {g : Ghosts W V} (a : Alphabet A V) where
+  -- What the lines told so far leave: what is in force then, that no line remains, and what became of the tally.
+  record ToldToTheEnd (told : List (Line V)) (lines last : Lines W V g) (force : Option InForce) : Type 0 where
     behind : Option InForce
-    stands : Stands W g s reads against last.workspace behind
-    owed : Owes W g s reads against lines force behind (map tells told)
-    room : length last.workspace.tally.now ≡ length lines.workspace.tally.now
+    stands : Stands a last.workspace behind
+    remained : Remaining a lines force behind (map content told)
+    room : room_of last ≡ room_of lines
     untouched : behind ≡ None → (force ≡ None) × (last.workspace.tally.now ≡ lines.workspace.tally.now)
 
-  -- the lines that come are those that are owed
-  drained : (told : List (Line V)) (lines last : Lines W V g) (force : Option InForce) → Stands W g s reads against lines.workspace force
-      → YieldsThen (Gives W g s reads against) lines told None last → Told-out told lines last force
+  -- the lines that come are those that remain
+  drained : (told : List (Line V)) (lines last : Lines W V g) (force : Option InForce) → Stands a lines.workspace force
+      → YieldsThen (Gives a) lines told None last → ToldToTheEnd told lines last force
   drained [] lines last force stands (at-end, same, none) =
-      subst (λ l. Stands W g s reads against l.workspace force → Told-out [] l last force) (sym same)
-      (λ held. let went = (none force held).0 in
+      subst (λ l. Stands a l.workspace force → ToldToTheEnd [] l last force) (sym same)
+      (λ held. let went = none.0 force held in
       record {
         behind = went.force;
         stands = went.stands;
-        owed = went.owes went.force [] (subst (λ x. OwesAt W g s reads against x last went.force went.force []) (sym ((none force held).1 refl)) (refl, refl));
+        remained = went.remains went.force [] (subst (λ x. RemainingAt a x last went.force went.force []) (sym (none.1 refl)) (refl, refl));
         room = went.room;
         untouched = went.untouched;
       }) stands
   drained (line ∷ more) lines last force stands (at-end, (next, step, rest), none) =
-      let went = (step force stands).0 in
+      let went = step.0 force stands in
       let out = drained more next last went.force went.stands (at-end, rest, none) in
       record {
         behind = out.behind;
         stands = out.stands;
-        owed = went.owes out.behind (map tells more) out.owed;
+        remained = went.remains out.behind (map content more) out.remained;
         room = out.room ∙ went.room;
         untouched = λ none-behind. let later = out.untouched none-behind in let first = went.untouched later.0 in (first.0, later.1 ∙ first.1);
       }
 
   -- a listing as it begins
-  at_start : (capture : List ℕ) (long known : Bool) (lines : Lines W V g) (last : Option InForce) (told : List (Told V))
+  at_start : (capture : List ℕ) (long known : Bool) (lines : Lines W V g) (last : Option InForce) (told : List (LineContent V))
       → lines.stage ≡ cond long TooLong (cond known Reading NoLetter) → (long ≡ false → lines.capture.now ≡ capture)
-      → lines.records ≡ 0 → lines.at.end ≡ 1 → left lines.acts ≡ []
-      → Owes W g s reads against lines None last told
-      → MatchBool long ((told ≡ a_fault 0 too_long ∷ []) × (last ≡ None))
-      (MatchBool known (RecordsTell s reads against (length lines.workspace.tally.now) capture 0 1 None last told) ((told ≡ a_fault 0 Letter ∷ the_end 0 ∷ []) × (last ≡ None)))
-  at_start capture true known lines last told stage same records end none owes = owed_at W g s reads against lines TooLong stage None last told owes
-  at_start capture false false lines last told stage same records end none owes =
-      let owed = owed_at W g s reads against lines NoLetter stage None last told owes in
-      (owed.0 ∙ ap (λ n. a_fault 0 Letter ∷ the_end n ∷ []) records, owed.1)
-  at_start capture false true lines last told stage same records end none owes =
-      let owed = subst (λ a. Records W g s reads against lines None a last told) none (owed_at W g s reads against lines Reading stage None last told owes) in
-      cast (λ i. RecordsTell s reads against (length lines.workspace.tally.now) (same refl i) (records i) (end i) None last told) (owed_others W g s reads against lines None last told owed)
+      → lines.at ≡ letter_layout → acts_left lines.acts ≡ []
+      → Remaining a lines None last told
+      → MatchBool long ((told ≡ fault_line 0 too_long ∷ []) × (last ≡ None))
+      (MatchBool known (RecordsTell a g.scale (room_of lines) capture letter_layout None last told) ((told ≡ fault_line 0 Letter ∷ end_line 0 ∷ []) × (last ≡ None)))
+  at_start capture true known lines last told stage same at none remaining = remaining_at a lines TooLong stage None last told remaining
+  at_start capture false false lines last told stage same at none remaining =
+      let lined = remaining_at a lines NoLetter stage None last told remaining in
+      (lined.0 ∙ ap (λ (x : Layout). fault_line 0 Letter ∷ end_line x.record_number ∷ []) at, lined.1)
+  at_start capture false true lines last told stage same at none remaining =
+      let remain = subst (λ x. RecordsRemain a lines None x last told) none (remaining_at a lines Reading stage None last told remaining) in
+      cast (λ i. RecordsTell a g.scale (room_of lines) (same refl i) (at i) None last told) (others_tell a lines None last told remain)
 
   -- what the tally holds by what is in force
-  tally_holds : (lines last : Lines W V g) (behind : Option InForce) → Stands W g s reads against last.workspace behind
-      → length last.workspace.tally.now ≡ length lines.workspace.tally.now → (behind ≡ None → last.workspace.tally.now ≡ lines.workspace.tally.now)
-      → TallyHolds s reads against behind lines.workspace.tally.now last.workspace.tally.now
+  tally_holds : (lines last : Lines W V g) (behind : Option InForce) → Stands a last.workspace behind
+      → room_of last ≡ room_of lines → (behind ≡ None → last.workspace.tally.now ≡ lines.workspace.tally.now)
+      → TallyHolds a g.scale behind lines.workspace.tally.now last.workspace.tally.now
   tally_holds lines last None stands room untouched = untouched refl
-  tally_holds lines last (Some force) (sheet, holds) room untouched =
-      (room, (run_kept W g s reads against force.octets force.check order_r holds.runs).entries)
+  tally_holds lines last (Some force) (sheet, holds) room untouched = (room, holds.agrees.entries)
 
   pub listed : (letter : ℕ) (capture : List ℕ) (lines : Lines W V g)
-      → lines.stage ≡ cond (nat_lt most_octets (length capture)) TooLong (cond (is_letter letter capture) Reading NoLetter)
-      → (length capture ≤ most_octets → lines.capture.now ≡ capture)
-      → lines.records ≡ 0 → lines.at.end ≡ 1 → left lines.acts ≡ [] → lines.workspace.sheet ≡ None
-      → (told : List (Line V)) (end : Lines W V g) → YieldsThen (Gives W g s reads against) lines told None end
-      → (last : Option InForce) × IsListing s reads against (length lines.workspace.tally.now) letter capture last (map tells told) × TallyHolds s reads against last lines.workspace.tally.now end.workspace.tally.now
-  listed letter capture lines stage same records end none closed told last drains =
+      → lines.stage ≡ cond (nat_lt most_capture_octets (length capture)) TooLong (cond (is_letter letter capture) Reading NoLetter)
+      → (length capture ≤ most_capture_octets → lines.capture.now ≡ capture)
+      → lines.at ≡ letter_layout → acts_left lines.acts ≡ [] → lines.workspace.sheet ≡ None
+      → (told : List (Line V)) (end : Lines W V g) → YieldsThen (Gives a) lines told None end
+      → AreListed a g.scale letter capture lines.workspace.tally.now end.workspace.tally.now told
+  listed letter capture lines stage same at none closed told last drains =
       let out = drained told lines last None closed drains in (
         out.behind,
-        at_start capture (nat_lt most_octets (length capture)) (is_letter letter capture) lines out.behind (map tells told) stage
+        at_start capture (nat_lt most_capture_octets (length capture)) (is_letter letter capture) lines out.behind (map content told) stage
             (λ short. same (grind (arith, nat_tests, short)))
-            records end none out.owed,
+            at none out.remained,
         tally_holds lines last out.behind out.stands out.room (λ e. (out.untouched e).1),
       )

@@ -1,5 +1,5 @@
 pub mod Carried
 pub mod Drained
 pub mod OnlyOne
-pub mod Owing
+pub mod Stepping
 pub mod Written

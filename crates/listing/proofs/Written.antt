@@ -3,8 +3,8 @@ use Rattle.std.proofs.Common.{◌≡◌, ℕ, List, [], ◌∷◌, ◌++◌, map
 use Rattle.std.specs.Prelude.{IfSome}
 use Rattle.std.specs.Fmt.{with_newline, ◌++?◌}
 use Rattle.std.specs.Io.KnownBytes.{Appends}
-use Rattle.listing.specs.Lines.{tells, text, whole_text}
-use Rattle.listing.specs.declared.Line.{Line}
+use Rattle.listing.specs.Lines.{content, text, whole_text}
+use Rattle.listing.specs.declared.lines.Line.{Line}
 
 -- what is appended twice is appended at once
 appended : (first second third : Option (List ℕ)) (xs ys : List ℕ) → Appends first second xs → Appends second third ys → Appends first third (xs ++ ys)
@@ -38,15 +38,15 @@ nothing_appended None = tt
 nothing_appended (Some xs) = sym (append-nil xs)
 
 more_text : {V : Type 0} (shown : V → Option (List ℕ)) (lines : List (Line V)) (line : Line V)
-    → whole_text shown (map tells (lines ++ line ∷ [])) ≡ whole_text shown (map tells lines) ++? with_newline (text shown (tells line))
-more_text shown [] line = nothing_behind (with_newline (text shown (tells line))) ∙ sym (nothing_before (with_newline (text shown (tells line))))
+    → whole_text shown (map content (lines ++ line ∷ [])) ≡ whole_text shown (map content lines) ++? with_newline (text shown (content line))
+more_text shown [] line = nothing_behind (with_newline (text shown (content line))) ∙ sym (nothing_before (with_newline (text shown (content line))))
 more_text shown (x ∷ xs) line =
-    ap (λ t. with_newline (text shown (tells x)) ++? t) (more_text shown xs line)
-    ∙ sym (joined_assoc (with_newline (text shown (tells x))) (whole_text shown (map tells xs)) (with_newline (text shown (tells line))))
+    ap (λ t. with_newline (text shown (content x)) ++? t) (more_text shown xs line)
+    ∙ sym (joined_assoc (with_newline (text shown (content x))) (whole_text shown (map content xs)) (with_newline (text shown (content line))))
 
 pub line_written : {V : Type 0} (shown : V → Option (List ℕ)) (before between after : Option (List ℕ)) (lines : List (Line V)) (line : Line V)
-    → IfSome (whole_text shown (map tells lines)) (Appends before between) → IfSome (with_newline (text shown (tells line))) (Appends between after)
-    → IfSome (whole_text shown (map tells (lines ++ line ∷ []))) (Appends before after)
+    → IfSome (whole_text shown (map content lines)) (Appends before between) → IfSome (with_newline (text shown (content line))) (Appends between after)
+    → IfSome (whole_text shown (map content (lines ++ line ∷ []))) (Appends before after)
 line_written shown before between after lines line one two =
     subst (λ t. IfSome t (Appends before after)) (sym (more_text shown lines line))
-    (both_appended before between after (whole_text shown (map tells lines)) (with_newline (text shown (tells line))) one two)
+    (both_appended before between after (whole_text shown (map content lines)) (with_newline (text shown (content line))) one two)

@@ -1,7 +1,9 @@
-pub mod Carrying
 pub mod Captures
+pub mod Carrying
 pub mod Faults
+pub mod InForce
 pub mod Lines
 pub mod Listings
-pub mod Owed
+pub mod Outcomes
+pub mod Remaining
 pub mod Whole

@@ -1,29 +1,41 @@
 -- The lines of a listing, and their text. Assumes nothing.
-use Rattle.std.specs.Prelude.{ℕ, ◌/◌, ◌%◌, Bool, false, cond, List, [], ◌∷◌, ◌++◌, take, codes, decimal, flat_map, Some, Option}
+use Rattle.std.specs.Prelude.{ℕ, ◌/◌, ◌%◌, false, List, [], ◌∷◌, ◌++◌, take, codes, decimal}
+use Rattle.std.specs.Prelude.{flat_map, Some, None, Option}
 use Rattle.std.specs.Fmt.{digit_glyph, with_newline, ◌++?◌}
-use Rattle.listing.specs.Faults.{fault_says}
-use Rattle.listing.specs.declared.Fault.{Fault}
-use Rattle.listing.specs.declared.Layer.{Layer}
-use Rattle.listing.specs.declared.Layer.TheVariants.{Listing, Sheet, Reading}
-use Rattle.listing.specs.declared.Line.{Line}
-use Rattle.listing.specs.declared.Line.TheVariants.{Decoded, Faulty, End}
-use Rattle.listing.specs.declared.Message.{Message}
+use Rattle.sheet.specs.declared.answers.Verdict.{Verdict}
+use Rattle.sheet.specs.declared.answers.Verdict.TheVariants.{Fits, DoesNotFit}
+use Rattle.listing.specs.Faults.{Says, fault_says}
+use Rattle.listing.specs.declared.faults.Fault.{Fault as FaultInCode}
+use Rattle.listing.specs.declared.faults.Layer.{Layer}
+use Rattle.listing.specs.declared.faults.Layer.TheVariants.{Listing, Sheet, Reading}
+use Rattle.listing.specs.declared.lines.Line.{Line}
+use Rattle.listing.specs.declared.lines.Line.TheVariants.{Decode, Fault, End}
+use Rattle.listing.specs.declared.reports.Report.{Report}
 
--- what a line tells: a decode with the record, the weight, whether the check fits, and the octets of the message named; a fault
--- with the record; or the end, with the number of records read whole
-pub data Told (V : Type 0) : Type 0 where
-  a_decode : (record-number : ℕ) (weight : V) (fits : Bool) (octets : List ℕ) → Told V
-  a_fault : (record-number : ℕ) (fault : Fault) → Told V
-  the_end : (records : ℕ) → Told V
+-- What a line says: of a decode the record, the weight, the verdict on the check, and the octets
+-- of the report that was named; of a fault the record; or the end, with the number of records read
+-- whole.
+pub data LineContent (V : Type 0) : Type 0 where
+  decode_line : (record-number : ℕ) (weight : V) (verdict : Verdict) (octets : List ℕ)
+      → LineContent V
+  fault_line : (record-number : ℕ) (fault : FaultInCode) → LineContent V
+  end_line : (records : ℕ) → LineContent V
 
-abbrev pub octets_of : Message → List ℕ
-octets_of message = take message.octets message.block
+-- the octets of a report that was named
+abbrev pub report_octets : Report → List ℕ
+report_octets report = take report.octets report.block
 
--- each case of a line, and what it tells
-abbrev pub tells : {V : Type 0} → Line V → Told V
-tells (Decoded record-number named) = a_decode record-number named.weight named.check_fits (octets_of named.message)
-tells (Faulty record-number fault) = a_fault record-number fault
-tells (End records) = the_end records
+-- each case of a line, and its content
+abbrev pub content : {V : Type 0} → Line V → LineContent V
+content (Decode record-number weight verdict report) =
+    decode_line record-number weight verdict (report_octets report)
+content (Fault record-number fault) = fault_line record-number fault
+content (End records) = end_line records
+
+-- what is told by an answer of one line or none
+abbrev pub answered : {V : Type 0} → Option (Line V) → List (LineContent V)
+answered None = []
+answered (Some line) = content line ∷ []
 
 -- an octet as two digits of lower-case hex
 abbrev pub hex_octet : ℕ → List ℕ
@@ -37,15 +49,26 @@ layer_letter Listing = codes "L"
 layer_letter Sheet = codes "S"
 layer_letter Reading = codes "K"
 
+abbrev pub verdict_letter : Verdict → List ℕ
+verdict_letter Fits = codes "Y"
+verdict_letter DoesNotFit = codes "N"
+
+-- the text of what a fault says
+abbrev pub says_text : Says → List ℕ
+says_text says =
+    decimal says.place ++ codes " " ++ layer_letter says.layer ++ codes " " ++ decimal says.number
+
 -- The text of a line, without the newline behind it. `shown` is the text of a weight.
-abbrev pub text : {V : Type 0} → (V → Option (List ℕ)) → Told V → Option (List ℕ)
-text shown (a_decode r weight fits octets) =
-    Some (codes "D " ++ decimal r ++ codes " ") ++? shown weight ++? Some (cond fits (codes " Y ") (codes " N ") ++ hex octets)
-text shown (a_fault r fault) =
-    Some (codes "F " ++ decimal r ++ codes " " ++ decimal (fault_says fault).place ++ codes " " ++ layer_letter (fault_says fault).layer ++ codes " " ++ decimal (fault_says fault).number)
-text shown (the_end r) = Some (codes "E " ++ decimal r)
+abbrev pub text : {V : Type 0} → (V → Option (List ℕ)) → LineContent V → Option (List ℕ)
+text shown (decode_line r weight verdict octets) =
+    Some (codes "D " ++ decimal r ++ codes " ") ++? shown weight
+    ++? Some (codes " " ++ verdict_letter verdict ++ codes " " ++ hex octets)
+text shown (fault_line r fault) =
+    Some (codes "F " ++ decimal r ++ codes " " ++ says_text (fault_says fault))
+text shown (end_line r) = Some (codes "E " ++ decimal r)
 
 -- the text of lines, each with a newline behind it
-abbrev pub whole_text : {V : Type 0} → (V → Option (List ℕ)) → List (Told V) → Option (List ℕ)
+abbrev pub whole_text : {V : Type 0} → (V → Option (List ℕ)) → List (LineContent V)
+    → Option (List ℕ)
 whole_text shown [] = Some []
 whole_text shown (line ∷ more) = with_newline (text shown line) ++? whole_text shown more

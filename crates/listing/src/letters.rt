@@ -1,11 +1,18 @@
 // The letters of the readings.
-ghost use Rattle.std.specs.Prelude.{◌≡◌, ◌∷◌, []};
+ghost use Rattle.std.specs.Prelude.{◌≡◌, ℕ};
 ghost use Rattle.listing.specs.Captures.{hard_letter, letters, soft_letter, worst_letter};
 
-use crate::Lettered;
+use weighing::Reading;
 use weighing::hard::Hard;
 use weighing::soft::Soft;
 use weighing::worst::Worst;
+
+// A reading with the letter by which a capture names it.
+pub trait Lettered: Reading {
+    const LETTER: u8;
+
+    ghost LETTER: { ℕ };
+}
 
 impl Lettered for Hard {
     const LETTER: u8 = b'H';

@@ -1,17 +1,23 @@
 // The entry call.
 ghost use Rattle.std.specs.Prelude.{◌≡◌, ◌≤◌, length};
-ghost use Rattle.listing.specs.Owed.{Begins};
+ghost use Rattle.listing.specs.Captures.{most_capture_octets};
+ghost use Rattle.listing.specs.Remaining.{IsFirstStage};
 ghost use Rattle.listing.specs.Whole.{HoldsTally, ListsCapture, OneListing};
 
-use crate::letters::known_letters;
-use crate::{Acts, ByLetter, Layout, Lettered, Lines, MOST_OCTETS, Stage, Workspace};
+use crate::MOST_CAPTURE_OCTETS;
+use crate::acts::Acts;
+use crate::layouts::Layout;
+use crate::letters::{Lettered, known_letters};
+use crate::telling::{ByLetter, Lines, Stage};
+use crate::workspaces::Workspace;
 use search::Entry;
 
-// How the listing of a capture begins, by the reading with this letter; none where it is another reading's.
+// How the listing of a capture begins, by the reading with this letter; none where it is another
+// reading's.
 fn first_stage(capture: &[u8], letter: u8) -> Option<Stage>
-    ensures { Begins letter capture.now result }
+    ensures { IsFirstStage letter capture.now result }
 {
-    if capture.len() > MOST_OCTETS {
+    if capture.len() > MOST_CAPTURE_OCTETS {
         return Some(Stage::TooLong);
     }
     match capture.first() {
@@ -23,27 +29,29 @@ fn first_stage(capture: &[u8], letter: u8) -> Option<Stage>
 
 // What is read of a capture: nothing of one that is too long.
 fn readable(capture: &[u8]) -> &[u8]
-    ensures few { length result.now ≤ 32768 }
-    ensures whole { length capture.now ≤ 32768 → result.now ≡ capture.now }
+    ensures few { length result.now ≤ most_capture_octets }
+    ensures whole { length capture.now ≤ most_capture_octets → result.now ≡ capture.now }
 {
-    if capture.len() > MOST_OCTETS {
+    if capture.len() > MOST_CAPTURE_OCTETS {
         &[]
     } else {
         capture
     }
 }
 
-// The lines of a capture by a reading, unless it begins with the letter of another. Sheets are opened over the tally, which need
-// not be cleared, and which refuses an opening where it has under 32 * N entries. At the lines' end the tally is as it was if no sheet
-// was opened, else it holds what the sheet in force has taken; what else tally and path weights hold then is free.
+// The lines of a capture by a reading, unless it begins with the letter of another. Sheets are
+// opened over the tally, which need not be cleared, and which refuses an opening where it has
+// under 32 * N entries. At the lines' end the tally is as it was if no sheet was opened, else it
+// holds what the sheet in force has taken; what else tally and path weights hold then is free.
 pub fn list<'a, R: Lettered>(
     capture: &'a [u8],
     tally: &'a mut [Entry<R::Value>],
     paths: &'a mut [Option<R::Value>; 32],
 ) -> ByLetter<'a, R>
-    ensures lists { ListsCapture R R.Weighing R.Weighing.scale R.Reading.reads R.Reading.against R.LETTER capture.now tally.old ⟦<Lines<'a, R> as Iterator>⟧.next_gives result }
+    ensures lists { ListsCapture R.Reading.alphabet R.LETTER capture.now tally.old
+        ⟦<Lines<'a, R> as Iterator>⟧.next_gives result }
     ensures same { HoldsTally tally.entry.ghost_name result }
-    ensures one { OneListing R.Weighing.scale R.Reading.reads R.Reading.against }
+    ensures one { OneListing R.Reading.alphabet R.Weighing.scale }
 {
     let Some(stage) = first_stage(capture, R::LETTER) else {
         return ByLetter::OfAnother(tally);
@@ -58,7 +66,6 @@ pub fn list<'a, R: Lettered>(
         },
         at: Layout::letter(),
         acts: Acts::none(),
-        records: 0,
         stage,
     })
 }

@@ -1,27 +1,73 @@
 // Telling the lines of a capture one by one.
-ghost use Rattle.std.specs.Prelude.{◌≡◌, ◌<◌, ◌≤◌, []};
-ghost use Rattle.std.specs.Iterator.{at_most};
-ghost use Rattle.listing.specs.Captures.{asks, left};
-ghost use Rattle.listing.specs.Owed.{CarriesOn, Gives, GoesOn, todo};
-ghost use Rattle.listing.specs.declared.Stage.TheVariants.{Ended, Reading};
+ghost use Rattle.std.specs.Prelude.{◌<◌, ◌≤◌, length};
+ghost use Rattle.listing.specs.Captures.{most_capture_octets, most_field_place};
 
-use crate::{Act, Acts, Fault, Layout, Line, Lines, Stage};
-use weighing::Reading;
+use crate::acts::{Act, Acts};
+use crate::layouts::Layout;
+use crate::workspaces::Workspace;
+use crate::{Fault, Line};
+use search::Entry;
+use weighing::{Reading, Weighing};
+
+// How far a listing is told.
+#[derive(Clone, Copy, Debug, PartialEq)]
+pub(crate) enum Stage {
+    // nothing is told yet of a capture that is too long, or that begins with no letter
+    TooLong,
+    NoLetter,
+    // records are read
+    Reading,
+    // a record stopped the reading, and the end is still to be told
+    Stopped,
+    Ended,
+}
+
+// The lines of a capture, told one by one. The bounds see to it that no place and no count
+// overflows.
+#[derive(Drop)]
+pub struct Lines<'a, W: Weighing> {
+    pub(crate) capture: &'a [u8],
+    pub(crate) workspace: Workspace<'a, W>,
+    // the record that was read last, and its acts that are still to be carried out
+    pub(crate) at: Layout,
+    pub(crate) acts: Acts<'a>,
+    pub(crate) stage: Stage,
+    ghost few: { length capture.now ≤ most_capture_octets },
+    ghost within: { at.end ≤ most_capture_octets },
+    ghost near: { at.symbols ≤ most_field_place },
+    ghost counted: { at.record_number < at.end },
+}
+
+// What a reading makes of a capture, by the letter that it begins with.
+#[derive(Drop)]
+pub enum ByLetter<'a, W: Weighing> {
+    // its lines
+    Lines(Lines<'a, W>),
+    // nothing, since the letter is that of another reading: the tally is handed back
+    OfAnother(&'a mut [Entry<W::Value>]),
+}
 
 impl<'a, R: Reading> Lines<'a, R> {
-    // Carries out an act of the record that was read last; a refused one leaves none of its others.
+    ghost use Rattle.std.specs.Prelude.{◌≡◌, ◌<◌, ◌≤◌, []};
+    ghost use Rattle.listing.specs.Captures.{act_of, acts_left};
+    ghost use Rattle.listing.specs.Remaining.{CarriesOn, StepsOn, steps_to_go};
+    ghost use Rattle.listing.specs.declared.telling.Stage.TheVariants.{Ended, Reading};
+
+    // Carries out an act of the record that was read last; where a fault stops it, none of its
+    // others is left.
     fn carry_out(&mut self, act: Act<'a>) -> Option<Line<R::Value>>
         requires { self.old.stage ≡ Reading }
-        ensures owes { CarriesOn R R.Weighing R.Weighing.scale R.Reading.reads R.Reading.against (asks act.entry) self.old self.new result }
-        ensures fewer { todo self.new ≤ todo self.old }
+        ensures goes_on { CarriesOn R.Reading.alphabet (act_of act.entry) self.old result self.new }
+        ensures fewer { steps_to_go self.new ≤ steps_to_go self.old }
     {
-        let record = self.records;
         match self.workspace.perform(self.at, act) {
-            Ok(None) => None,
-            Ok(Some(named)) => Some(Line::Decoded { record, named }),
+            Ok(line) => line,
             Err(fault) => {
                 self.acts = Acts::none();
-                Some(Line::Faulty { record, fault })
+                Some(Line::Fault {
+                    record: self.at.record_number,
+                    fault,
+                })
             }
         }
     }
@@ -29,28 +75,26 @@ impl<'a, R: Reading> Lines<'a, R> {
     // Begins the next record, or tells why none is read.
     fn begin(&mut self) -> Option<Line<R::Value>>
         requires reading { self.old.stage ≡ Reading }
-        requires done { left self.old.acts ≡ [] }
-        ensures owes { GoesOn R R.Weighing R.Weighing.scale R.Reading.reads R.Reading.against self.old self.new result }
-        ensures fewer { todo self.new < todo self.old }
+        requires done { acts_left self.old.acts ≡ [] }
+        ensures goes_on { StepsOn R.Reading.alphabet self.old result self.new }
+        ensures fewer { steps_to_go self.new < steps_to_go self.old }
     {
-        let place = self.at.end;
-        if place >= self.capture.len() {
+        if self.at.end >= self.capture.len() {
             self.stage = Stage::Ended;
             return Some(Line::End {
-                records: self.records,
+                records: self.at.record_number,
             });
         }
-        match Layout::read(self.capture, place) {
-            Ok(at) => {
-                self.acts = Acts::of(self.capture, at);
-                self.at = at;
-                self.records += 1;
+        match self.at.read_next(self.capture) {
+            Ok(next) => {
+                self.acts = Acts::of(self.capture, next);
+                self.at = next;
                 None
             }
             Err(fault) => {
                 self.stage = Stage::Stopped;
-                Some(Line::Faulty {
-                    record: self.records + 1,
+                Some(Line::Fault {
+                    record: self.at.record_number + 1,
                     fault,
                 })
             }
@@ -60,20 +104,20 @@ impl<'a, R: Reading> Lines<'a, R> {
     // One step: an act, the next record or the end. It tells a line or none.
     fn step(&mut self) -> Option<Line<R::Value>>
         requires { self.old.stage ≡ Ended → ⊥ }
-        ensures owes { GoesOn R R.Weighing R.Weighing.scale R.Reading.reads R.Reading.against self.old self.new result }
-        ensures fewer { todo self.new < todo self.old }
+        ensures goes_on { StepsOn R.Reading.alphabet self.old result self.new }
+        ensures fewer { steps_to_go self.new < steps_to_go self.old }
     {
         match self.stage {
             Stage::TooLong => {
                 self.stage = Stage::Ended;
-                Some(Line::Faulty {
+                Some(Line::Fault {
                     record: 0,
                     fault: Fault::TooLong,
                 })
             }
             Stage::NoLetter => {
                 self.stage = Stage::Stopped;
-                Some(Line::Faulty {
+                Some(Line::Fault {
                     record: 0,
                     fault: Fault::Letter,
                 })
@@ -85,7 +129,7 @@ impl<'a, R: Reading> Lines<'a, R> {
             Stage::Stopped => {
                 self.stage = Stage::Ended;
                 Some(Line::End {
-                    records: self.records,
+                    records: self.at.record_number,
                 })
             }
             Stage::Ended => None,
@@ -94,11 +138,14 @@ impl<'a, R: Reading> Lines<'a, R> {
 }
 
 impl<'a, R: Reading> Iterator for Lines<'a, R> {
+    ghost use Rattle.std.specs.Iterator.{at_most};
+    ghost use Rattle.listing.specs.Remaining.{Gives, steps_to_go};
+
     type Item = Line<R::Value>;
 
-    ghost next_gives = { Gives R R.Weighing R.Weighing.scale R.Reading.reads R.Reading.against };
+    ghost next_gives = { Gives R.Reading.alphabet };
 
-    ghost remaining = { λ lines. at_most (todo lines) };
+    ghost remaining = { λ lines. at_most (steps_to_go lines) };
 
     fn next(&mut self) -> Option<Line<R::Value>> {
         while self.stage != Stage::Ended {

@@ -10,8 +10,8 @@ use weighing::hard::Hard;
 use weighing::soft::Soft;
 use weighing::worst::Worst;
 
-// Writes the listing of a capture by a reading, each line with a newline, unless the capture begins with the letter of another;
-// answers whether it does not. The rest is as for `list`.
+// Writes the listing of a capture by a reading, each line with a newline, unless the capture begins
+// with the letter of another; answers whether it does not. The rest is as for `list`.
 pub fn write_listing<R: Lettered, O: Write>(
     capture: &[u8],
     tally: &mut [Entry<R::Value>],
@@ -20,7 +20,9 @@ pub fn write_listing<R: Lettered, O: Write>(
 ) -> io::Result<bool>
 where
     R::Value: fmt::Display,
-    ensures { IfOk result (WritesListing R.Weighing.scale R.Reading.reads R.Reading.against R.LETTER (length tally.old) capture.now R.Value.Display.output (O.contents output.old) (O.contents output.new)) }
+    ensures { IfOk result (WritesListing R.Reading.alphabet R.Weighing.scale R.LETTER
+        (length tally.old) capture.now R.Value.Display.output
+        (O.contents output.old) (O.contents output.new)) }
 {
     match list::<R>(capture, tally, paths) {
         ByLetter::OfAnother(_) => Ok(false),
@@ -33,15 +35,17 @@ where
     }
 }
 
-// Writes the listing of a capture by the reading that its letter names; of one that is too long or has no known letter, that it is so.
-// The hard and the soft reading have one kind of weights and so one tally, and the worst has another.
+// Writes the listing of a capture by the reading that its letter names; of one that is too long or
+// has no known letter, that it is so. The hard and the soft reading have one kind of weights and
+// so one tally, and the worst has another.
 pub fn write_by_letter<O: Write>(
     capture: &[u8],
     sums: &mut [Entry<u32>],
     largest: &mut [Entry<u8>],
     output: &mut O,
 ) -> io::Result<()>
-    ensures { IfOk result (λ done. WritesByLetter (length sums.old) (length largest.old) capture.now (O.contents output.old) (O.contents output.new)) }
+    ensures { IfOk result (λ done. WritesByLetter (length sums.old) (length largest.old) capture.now
+        (O.contents output.old) (O.contents output.new)) }
 {
     if write_listing::<Hard, O>(capture, sums, &mut [None; 32], output)? {
         return Ok(());

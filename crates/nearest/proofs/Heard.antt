@@ -3,7 +3,7 @@ use Rattle.std.proofs.Common.{◌≡◌, ℕ, zero, suc, ◌+◌, ◌%◌, ◌<�
 use Rattle.std.specs.List.{range_with_len}
 use Rattle.std.proofs.lemmas.Bool.{cases_eq, eq-eqb, ne_eqb}
 use Rattle.block.specs.Bits.{value}
-use Rattle.weighing.specs.Hard.{hard_reads, hard_weight}
+use Rattle.weighing.specs.Hard.{hard_alphabet, hard_weight}
 use Rattle.weighing.specs.Scales.{counted}
 use Rattle.weighing.specs.declared.hard.HardSymbol.TheVariants.{Bit}
 use Rattle.sheet.specs.Books.{laid, sum_behind}
@@ -29,7 +29,7 @@ own_weighs true false e = absurd (one_not_zero e)
 own_weighs false true e = absurd (one_not_zero e)
 own_weighs false false e = refl
 
-laid_bit : (places q : ℕ) (b : Bool) (xs : List ℕ) → laid hard_reads places q (value b ∷ xs) ≡ (q % places, Bit b) ∷ laid hard_reads places (suc q) xs
+laid_bit : (places q : ℕ) (b : Bool) (xs : List ℕ) → laid hard_alphabet places q (value b ∷ xs) ≡ (q % places, Bit b) ∷ laid hard_alphabet places (suc q) xs
 laid_bit places q true xs = refl
 laid_bit places q false xs = refl
 
@@ -39,13 +39,13 @@ module _ (places : ℕ) (f : ℕ → Bool) (p : ℕ) (b : Bool) where
   symbols q m = map value (map f (range_with_len q m))
 
   abbrev sum : Weight → ℕ → ℕ → Weight
-  sum w q m = sum_behind hard_reads counted hard_weight w p b (laid hard_reads places q (symbols q m))
+  sum w q m = sum_behind hard_alphabet counted w p b (laid hard_alphabet places q (symbols q m))
 
   -- one symbol, and then the rest
   sum_more : (w : Weight) (q m : ℕ) → q < places → sum w q (suc m) ≡ sum (cond (eqb q p) (counted.plus w (weighs (f q) b)) w) (suc q) m
   sum_more w q m h =
-      ap (sum_behind hard_reads counted hard_weight w p b) (laid_bit places q (f q) (map value (map f (range_with_len (q + 1) m))))
-      ∙ (λ i. sum_behind hard_reads counted hard_weight (cond (eqb (mod-eq_of_lt h i) p) (counted.plus w (weighs (f q) b)) w) p b (laid hard_reads places (suc q) (map value (map f (range_with_len (add-one q i) m)))))
+      ap (sum_behind hard_alphabet counted w p b) (laid_bit places q (f q) (map value (map f (range_with_len (q + 1) m))))
+      ∙ (λ i. sum_behind hard_alphabet counted (cond (eqb (mod-eq_of_lt h i) p) (counted.plus w (weighs (f q) b)) w) p b (laid hard_alphabet places (suc q) (map value (map f (range_with_len (add-one q i) m)))))
 
   -- a place that is not among them keeps its weight
   pub sum_miss : (m : ℕ) (w : Weight) (q : ℕ) → q + m ≤ places → (p < q) ⊎ (q + m ≤ p) → sum w q m ≡ w

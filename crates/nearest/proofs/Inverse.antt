@@ -5,7 +5,7 @@ use Rattle.std.proofs.lemmas.Bool.{le-ltb, lt-ltb, ne_eqb}
 use Rattle.code.specs.Columns.{index_of, is_order}
 use Rattle.code.specs.Places.{column_at, output, place_bit, place_of, row_at}
 use Rattle.code.specs.Register.{silent}
-use Rattle.code.specs.declared.Outputs.{Outputs}
+use Rattle.code.specs.declared.registers.Outputs.{Outputs}
 use Rattle.code.proofs.Ordered.{order_index}
 
 -- row r of the column at index j

@@ -1,11 +1,10 @@
 pub mod Fitting
 pub mod Heard
 pub mod Inverse
-pub mod Keeping
 pub mod Returned
 pub mod Running
 pub mod Sent
-pub mod Stretching
+pub mod Growing
 pub mod Taken
 pub mod Whole
 pub mod Zeros

@@ -1,5 +1,5 @@
 -- A report of one octet that comes back undamaged. Assumes nothing.
-use Rattle.std.proofs.Common.{◌≡◌, ℕ, ◌+◌, ◌*◌, ◌/◌, ◌%◌, ◌<◌, ◌≤◌, Bool, false, eqb, List, [], ◌∷◌, ◌++◌, get_or, drop, length, Ok, Err, None, Option, Result, refl, ap, ◌∙◌, arith, rules}
+use Rattle.std.proofs.Common.{◌≡◌, ℕ, ◌+◌, ◌*◌, ◌/◌, ◌%◌, ◌<◌, ◌≤◌, Bool, false, eqb, List, [], ◌∷◌, ◌++◌, get_or, drop, length, Ok, Err, None, Result, refl, ap, subst, ◌∙◌, arith, rules}
 use Rattle.std.proofs.lemmas.List.{get_or_append_left}
 use Rattle.std.proofs.lemmas.List.FromFn.{get_or-map-range_with_len, length-map-range_with_len}
 use Rattle.std.proofs.lemmas.Bool.{eqb-true}
@@ -9,23 +9,26 @@ use Rattle.block.specs.Refusals.{first_refusal}
 use Rattle.block.specs.Sizes.{payload, plan_checks}
 use Rattle.block.proofs.Computed.{below}
 use Rattle.block.proofs.Laws.{octet_same}
-use Rattle.code.specs.Calls.{EncodeDoes}
+use Rattle.code.specs.Calls.{Encodes}
 use Rattle.code.specs.Columns.{order_r}
 use Rattle.code.specs.Register.{after, cleared, tail, with_tail}
-use Rattle.weighing.specs.Hard.{hard_reads, hard_weight}
+use Rattle.code.specs.Shapes.{Shape}
+use Rattle.weighing.specs.Hard.{hard_alphabet}
 use Rattle.weighing.specs.Scales.{counted}
-use Rattle.weighing.specs.declared.Weighing.{Ghosts}
+use Rattle.search.specs.Weights.{entry_sums}
 use Rattle.weighing.specs.declared.hard.HardSymbol.{HardSymbol}
-use Rattle.search.specs.Found.{FindDoes}
+use Rattle.search.specs.Scratch.{Scratch}
 use Rattle.search.specs.declared.Entry.{Entry}
-use Rattle.search.specs.declared.FindRefusal.{FindRefusal}
-use Rattle.search.specs.declared.Found.{Found}
-use Rattle.nearest.specs.Runs.{ThreeCalls}
-use Rattle.nearest.specs.declared.ShortRun.{ShortRun}
-use Rattle.nearest.specs.Undamaged.{GivesBack, NamesSent, heard}
+use Rattle.search.specs.declared.refusal.FindRefusal.{FindRefusal}
+use Rattle.sheet.specs.Calls.{Decodes, NamesNearest, shape_of_sheet}
+use Rattle.sheet.specs.declared.answers.Decoded.{Decoded}
+use Rattle.sheet.specs.declared.sheets.Sheet.{Sheet}
+use Rattle.nearest.specs.ShortRuns.{Lent, ThreeCalls, smallest}
+use Rattle.nearest.specs.Undamaged.{NamesSent, NamesWithoutWeight, RoomFor, counting, heard}
+use Rattle.nearest.specs.declared.runs.ShortRun.{ShortRun}
 use Rattle.nearest.proofs.Fitting.{own_bit}
 use Rattle.nearest.proofs.Sent.{decodes_what_was_sent}
-use Rattle.nearest.proofs.Taken.{at_opening}
+use Rattle.nearest.proofs.Taken.{shape_after}
 
 -- an octet is made of its own bits
 octet_bits : (x : ℕ) → x < 256 → octet_of (λ i. bit i x) ≡ x
@@ -58,19 +61,21 @@ own_octet x small target target' mine long is written =
 pub rate_of : (octets check k : ℕ) → first_refusal (plan_checks octets check k) ≡ None → k ≤ 24
 rate_of octets check k e = search rules
 
--- what is named, by the octet that is written for it
-back_named : (x : ℕ) → x < 256 → (order : List ℕ) (tally : List (Entry ℕ)) (target target' words words' : List ℕ) (paths paths' : List (Option ℕ)) (answer : Result (Found ℕ) FindRefusal)
-    → FindDoes counted 1 4 order tally target target' words words' paths paths' answer → NamesSent (x ∷ []) 4 target' answer → GivesBack x target' answer
-back_named x small order tally target target' words words' paths paths' (Ok found) find sent =
-    (own_octet x small target target' (bits_of target' 12) (length-map-range_with_len (bit_at target') 0 12) sent.0 find.1.0.written, sent.1, sent.2)
-back_named x small order tally target target' words words' paths paths' (Err e) find sent = sent
+module _ {W : Type 0} where
+  -- what is named, by the octet that is written for it
+  back_named : (x : ℕ) → x < 256 → (tally : List (Entry ℕ)) (sheet : Sheet W ℕ counting) → shape_of_sheet sheet ≡ smallest → (target target' : List ℕ) (scratch scratch' : Scratch ℕ)
+      (r : Result (Decoded ℕ) FindRefusal) → Decodes sheet tally target target' scratch scratch' r → NamesSent (x ∷ []) 4 target' r → NamesWithoutWeight (get_or target' 0 0 ≡ x) r
+  back_named x small tally sheet same target target' scratch scratch' (Ok decoded) decodes sent =
+      let written = (subst (λ (s : Shape). NamesNearest counted s (entry_sums counted tally) target target' decoded) same decodes.1.0).names.written in
+      (own_octet x small target target' (bits_of target' 12) (length-map-range_with_len (bit_at target') 0 12) sent.0 written, sent.1, sent.2)
+  back_named x small tally sheet same target target' scratch scratch' (Err e) decodes sent = sent
 
-pub gives_back : {W : Type 0} {g : Ghosts W ℕ} (x k : ℕ) → x < 256 → k ≤ 24 → (before buffer : List ℕ) → EncodeDoes (x ∷ []) 4 order_r before buffer (Ok tt)
-    → {tally tally' : List (Entry ℕ)} {target target' words words' : List ℕ} {paths paths' : List (Option ℕ)} (run : ShortRun W HardSymbol ℕ g)
-    → 2 ≤ length target → 16 ≤ length words → 32 ≤ length paths
-    → ThreeCalls W g counted hard_reads hard_weight 0 (heard buffer (payload 1 4 k)) tally tally' target target' words words' paths paths' run → GivesBack x target' run.found
-gives_back {W} {g} x k small rate before buffer encode {tally} {tally'} {target} {target'} {words} {words'} {paths} {paths'} run a b c calls =
-    let sent =
-    (decodes_what_was_sent W g (x ∷ []) 4 k order_r before buffer rate encode tally calls.between tally' calls.new_sheet run.sheet run.taken calls.opening calls.taking).1 target target' words words' paths paths' run.found a b c calls.decoding in
-    back_named x small order_r tally' target target' words words' paths paths' run.found
-    (at_opening 1 4 order_r tally calls.between tally' calls.new_sheet run.sheet 0 (heard buffer (payload 1 4 k)) run.taken calls.opening calls.taking target target' words words' paths paths' run.found calls.decoding) sent
+  pub gives_back : (x k : ℕ) → x < 256 → k ≤ 24 → (before buffer : List ℕ) → Encodes (x ∷ []) 4 order_r before buffer (Ok tt)
+      → (before-run after-run : Lent ℕ) (run : ShortRun W HardSymbol ℕ counting) → RoomFor 2 before-run.target before-run.scratch
+      → ThreeCalls counting hard_alphabet 0 (heard buffer (payload 1 4 k)) before-run after-run run → NamesWithoutWeight (get_or after-run.target 0 0 ≡ x) run.decoded
+  gives_back x k small rate before buffer encode from to run rooms calls =
+      let heard_so = heard buffer (payload 1 4 k) in
+      let sent = (decodes_what_was_sent W (x ∷ []) 4 k order_r before buffer rate encode from.tally calls.opened to.tally calls.new_sheet run.sheet run.taken calls.opening calls.taking).1
+      from.target to.target from.scratch to.scratch run.decoded rooms calls.decoding in
+      back_named x small to.tally run.sheet (shape_after smallest from.tally calls.opened to.tally calls.new_sheet run.sheet 0 heard_so run.taken calls.opening calls.taking)
+      from.target to.target from.scratch to.scratch run.decoded calls.decoding sent

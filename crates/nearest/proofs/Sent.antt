@@ -1,5 +1,5 @@
 -- An undamaged first payload decodes to what was sent. Assumes nothing.
-use Rattle.std.proofs.Common.{◌≡◌, ℕ, zero-add, ◌+◌, ◌*◌, ◌<◌, ◌≤◌, Bool, true, false, List, length, get_or, drop, Ok, Err, None, Option, Result, sym, ap, ◌∙◌, subst, inl, inr, mul-le-mul_left, arith, lit≤}
+use Rattle.std.proofs.Common.{◌≡◌, refl, ℕ, zero-add, ◌+◌, ◌*◌, ◌<◌, ◌≤◌, Bool, true, false, List, length, get_or, drop, Ok, Err, None, Result, sym, ap, ◌∙◌, subst, inl, inr, mul-le-mul_left, arith, lit≤}
 use Rattle.std.proofs.lemmas.List.FromFn.{length-map-range_with_len}
 use Rattle.std.proofs.lemmas.List.{ext_get_or, get_or_append_left}
 use Rattle.std.proofs.lemmas.Bool.{cases_lt}
@@ -11,28 +11,33 @@ use Rattle.block.specs.Sizes.{block_octets, payload}
 use Rattle.block.proofs.Octets.{bit_at_octets}
 use Rattle.code.specs.Columns.{is_order}
 use Rattle.code.specs.Places.{output, place_bit, place_of}
-use Rattle.code.specs.Calls.{EncodeDoes}
+use Rattle.code.specs.Calls.{Encodes}
 use Rattle.code.specs.Register.{after, cleared, coded, silent, tail, with_tail}
 use Rattle.code.proofs.Runs.{trace_length, trace_own}
-use Rattle.weighing.specs.Hard.{hard_reads, hard_weight}
 use Rattle.weighing.specs.Scales.{counted}
-use Rattle.weighing.specs.declared.Weighing.{Ghosts}
-use Rattle.search.specs.Found.{FindDoes, Names, find_checks}
 use Rattle.search.specs.Weights.{entry_sums, part, weight}
-use Rattle.search.specs.declared.Entry.{Entry}
-use Rattle.search.specs.declared.FindRefusal.{FindRefusal}
-use Rattle.search.specs.declared.Found.{Found}
 use Rattle.search.proofs.Bridge.{with_tail_length}
 use Rattle.search.proofs.Growth.{place_small}
+use Rattle.code.specs.Shapes.{Shape, block_length}
+use Rattle.weighing.specs.Hard.{hard_alphabet}
+use Rattle.search.specs.Found.{find_checks}
+use Rattle.search.specs.Scratch.{Scratch}
+use Rattle.search.specs.declared.Entry.{Entry}
+use Rattle.search.specs.declared.refusal.FindRefusal.{FindRefusal}
 use Rattle.sheet.specs.Books.{laid, sum_behind}
-use Rattle.sheet.specs.Calls.{Cleared, Laid, block_of, take_checks}
-use Rattle.nearest.specs.Undamaged.{DecodesWhatWasSent, NamesSent, heard}
+use Rattle.sheet.specs.Calls.{Cleared, Decodes, Laid, NamesNearest, block_length_of, shape_of_sheet, take_checks}
+use Rattle.sheet.specs.Verdicts.{IsVerdict}
+use Rattle.sheet.specs.declared.answers.Decoded.{Decoded}
+use Rattle.sheet.specs.declared.answers.Verdict.{Verdict}
+use Rattle.sheet.specs.declared.answers.Verdict.TheVariants.{DoesNotFit, Fits}
+use Rattle.sheet.specs.declared.sheets.Sheet.{Sheet}
+use Rattle.nearest.specs.Undamaged.{DecodesWhatWasSent, NamesSent, RoomFor, counting, heard}
 use Rattle.nearest.proofs.Fitting.{report_fits}
 use Rattle.nearest.proofs.Heard.{own_weighs, sum_hit, sum_miss, weighs, weighs_own}
 use Rattle.nearest.proofs.Inverse.{place_back}
-use Rattle.nearest.proofs.Keeping.{block_is, opened_room}
-use Rattle.nearest.proofs.Taken.{at_opening, heard_length, heard_passes, taken_all}
+use Rattle.nearest.proofs.Taken.{heard_length, heard_passes, shape_after, taken_all}
 use Rattle.nearest.proofs.Zeros.{added_none, first_zero, only_zero}
+use Rattle.sheet.proofs.Keeping.{opened_room, ordered, whole as whole_octets}
 
 -- the first payload has all octets of output 1, and fits the buffer
 payload_long : (octets check k : ℕ) → k ≤ 24 → (block_octets octets check ≤ payload octets check k) × (payload octets check k ≤ 4 * block_octets octets check)
@@ -98,13 +103,21 @@ module _ (order : List ℕ) (is : is_order order ≡ true) (n m : ℕ) (all : 8 
   pub nearest_zero : (w : counted.Meaning) → counted.atmost w (weight counted order n (entry_sums counted tally) sent) → w ≡ counted.zero
   nearest_zero w le = only_zero counted order n (entry_sums counted tally) w (rw sent_weight at le)
 
+-- where a message's check fits, the verdict says so
+fits_is : (shape : Shape) (message : List Bool) (verdict : Verdict) → IsVerdict shape message verdict → CheckFits shape.octets shape.check message → verdict ≡ Fits
+fits_is shape message Fits is fits = refl
+fits_is shape message DoesNotFit is fits = absurd (is fits)
+
 -- What is heard of a buffer after a report was encoded into it, and taken onto a new sheet.
 module _ (report : List ℕ) (check k : ℕ) (order before buffer : List ℕ) (rate : k ≤ 24) (is : is_order order ≡ true)
-    (size : 8 * length report + check + 4 ≡ 8 * block_octets (length report) check) (encode : EncodeDoes report check order before buffer (Ok tt))
+    (size : 8 * length report + check + 4 ≡ 8 * block_octets (length report) check) (encode : Encodes report check order before buffer (Ok tt))
     (tally opened taken : List (Entry ℕ)) (cleared_so : Cleared counted (block_octets (length report) check) tally opened)
-    (lays : Laid counted hard_reads hard_weight (block_octets (length report) check) 0 (heard buffer (payload (length report) check k)) opened taken) where
+    (lays : Laid hard_alphabet counted (block_octets (length report) check) 0 (heard buffer (payload (length report) check k)) opened taken) where
   abbrev octets : ℕ
   octets = length report
+
+  abbrev shape : Shape
+  shape = record { octets = octets; check = check; order = order }
 
   abbrev n : ℕ
   n = block_octets octets check
@@ -125,7 +138,7 @@ module _ (report : List ℕ) (check k : ℕ) (order before buffer : List ℕ) (r
   holds p h = cc (encode.1, bit_at_octets (place_bit order n (coded sent)) (4 * n) (drop (4 * n) before) p (omega arith))
 
   laid_sum : (p : ℕ) (b : Bool) → p < 32 * n
-      → entry_sums counted taken p b ≡ sum_behind hard_reads counted hard_weight counted.zero p b (laid hard_reads (32 * n) 0 (heard buffer (payload octets check k)))
+      → entry_sums counted taken p b ≡ sum_behind hard_alphabet counted counted.zero p b (laid hard_alphabet (32 * n) 0 (heard buffer (payload octets check k)))
   laid_sum p b h = cc (lays.sums p b h, cleared_so.zeros p b h)
 
   hit : (p : ℕ) (b : Bool) → p < m → entry_sums counted taken p b ≡ weighs (bit_at buffer p) b
@@ -139,51 +152,56 @@ module _ (report : List ℕ) (check k : ℕ) (order before buffer : List ℕ) (r
       laid_sum p b h ∙ sum_miss (32 * n) (bit_at buffer) p b m counted.zero 0 (omega arith) (inr (omega arith))
 
   -- what is named is the message sent
-  sent_named : (target target' : List ℕ) (found : Found ℕ) → Names counted octets check order (entry_sums counted taken) target target' found
-      → (bits_of target' bits ≡ sent) × (found.weight ≡ 0) × (found.check_fits ≡ true)
-  sent_named target target' found names =
+  sent_named : (target target' : List ℕ) (decoded : Decoded ℕ) → NamesNearest counted shape (entry_sums counted taken) target target' decoded
+      → (bits_of target' bits ≡ sent) × (decoded.weight ≡ 0) × (decoded.verdict ≡ Fits)
+  sent_named target target' decoded named =
       let long = payload_long octets check k rate in
+      let names = named.names in
       let mine = bits_of target' bits in
       let mine_long : length mine + 4 ≡ 8 * n = rw length-map-range_with_len size in
       let none : weight counted order n (entry_sums counted taken) mine ≡ counted.zero =
       nearest_zero order is n m (omega arith) (omega arith) (bit_at buffer) sent sent_long holds taken hit miss _ (names.nearest sent (omega (arith, sent_long))) in
       let same : mine ≡ sent = same_message order is n m (omega arith) (omega arith) (bit_at buffer) sent sent_long holds taken hit miss mine mine_long none in (
         same,
-        (let zero_value : (counted.mean found.weight).value ≡ 0 = ap (λ (x : counted.Meaning). x.value) (names.weighs ∙ none) in omega arith),
-        names.verdict.1 (subst (CheckFits octets check) (sym same) (report_fits report octets check)),
+        (let zero_value : (counted.mean decoded.weight).value ≡ 0 = ap (λ (x : counted.Meaning). x.value) (names.weighs ∙ none) in omega arith),
+        fits_is shape mine decoded.verdict named.verdict (subst (CheckFits octets check) (sym same) (report_fits report octets check)),
       )
 
   -- where there is room enough a message is found, and it is that
-  pub found_sent : (target target' words words' : List ℕ) (paths paths' : List (Option ℕ)) (r : Result (Found ℕ) FindRefusal)
-      → 32 * n ≤ length taken → n ≤ length target → 8 * n ≤ length words → 32 ≤ length paths
-      → FindDoes counted octets check order taken target target' words words' paths paths' r → NamesSent report check target' r
-  found_sent target target' words words' paths paths' (Ok found) a b c d find = sent_named target target' found find.1.0
-  found_sent target target' words words' paths paths' (Err e) a b c d find =
-      let none : first_refusal (find_checks n (length taken) (length target) (length words) (length paths)) ≡ None = grind (arith, nat_tests) in
-      absurd (cc (none, find.0))
+  pub found_sent : {W : Type 0} (sheet : Sheet W ℕ counting) → shape_of_sheet sheet ≡ shape → (target target' : List ℕ) (scratch scratch' : Scratch ℕ) (r : Result (Decoded ℕ) FindRefusal)
+      → 32 * n ≤ length taken → RoomFor n target scratch → Decodes sheet taken target target' scratch scratch' r → NamesSent report check target' r
+  found_sent sheet same target target' scratch scratch' (Ok decoded) room rooms decodes =
+      sent_named target target' decoded (subst (λ (x : Shape). NamesNearest counted x (entry_sums counted taken) target target' decoded) same decodes.1.0)
+  found_sent sheet same target target' scratch scratch' (Err e) room rooms decodes =
+      let a = rooms.0 in
+      let b = rooms.1 in
+      let c = rooms.2 in
+      let none : first_refusal (find_checks n (length taken) (length target) scratch) ≡ None = grind (arith, nat_tests) in
+      absurd (cc (none, same, decodes.0))
 
-module _ (W : Type 0) (g : Ghosts W ℕ) where
-  pub decodes_what_was_sent : DecodesWhatWasSent W g
-  decodes_what_was_sent report check k order before buffer rate encode tally opened taken new_sheet sheet r opens take =
+module _ (W : Type 0) where
+  pub decodes_what_was_sent : DecodesWhatWasSent W
+  decodes_what_was_sent report check k order before buffer rate encode tally opened left new_sheet sheet r opens takes =
       let octets = length report in
+      let shape : Shape = record { octets = octets; check = check; order = order } in
       let n = block_octets octets check in
       let made = opens.1 in
       let p = payload octets check k in
       let symbols = heard buffer p in
-      let same : block_of new_sheet ≡ n = block_is new_sheet made.octets_are made.check_is in
-      let size : 8 * octets + check + 4 ≡ 8 * n = omega (arith, made.octets_are, made.check_is, new_sheet.size.odd_half) in
-      let is : is_order order ≡ true = cc (made.order_is, new_sheet.order.each) in
+      let same : block_length_of new_sheet ≡ n = ap block_length made.shape_is in
+      let size : 8 * octets + check + 4 ≡ 8 * n = whole_octets new_sheet shape made.shape_is in
+      let is : is_order order ≡ true = ordered new_sheet shape made.shape_is in
       let long = payload_long octets check k rate in
-      let room : 32 * n ≤ length opened = omega (arith, opened_room octets check tally opens.0, made.cleared.front.long) in
-      let passes : first_refusal (take_checks hard_reads (block_of new_sheet) (length opened) new_sheet.count 0 symbols) ≡ None =
-      heard_passes (block_of new_sheet) (length opened) new_sheet.count p buffer (omega (arith, new_sheet.size.some)) (omega (arith, new_sheet.size.few, new_sheet.size.short)) (omega (arith, same)) (omega (arith, same)) (omega (arith, same)) made.none_taken in
-      let performed = taken_all new_sheet sheet opened taken 0 symbols r passes take in
-      let lays = subst (λ x. Laid counted hard_reads hard_weight x 0 symbols opened taken) same performed.1 in
+      let room : 32 * n ≤ length opened = omega (arith, opened_room shape (length tally) opens.0, made.cleared.front.long) in
+      let passes : first_refusal (take_checks hard_alphabet (block_length_of new_sheet) (length opened) new_sheet.count 0 symbols) ≡ None =
+      heard_passes (block_length_of new_sheet) (length opened) new_sheet.count p buffer (omega (arith, new_sheet.shape.size.some)) (omega (arith, new_sheet.shape.size.few, new_sheet.shape.size.short)) (omega (arith, same)) (omega (arith, same)) (omega (arith, same)) made.none_taken in
+      let performed = taken_all new_sheet sheet opened left 0 symbols r passes takes in
+      let lays = subst (λ x. Laid hard_alphabet counted x 0 symbols opened left) same performed.1 in
       let count = heard_length buffer p in
       let total : new_sheet.count + length symbols ≡ 8 * p = omega (arith, made.none_taken) in (
-        performed.0 ∙ ap Ok total,
-        λ target target' words words' paths paths' found a b c decode.
-            found_sent report check k order before buffer rate is size encode tally opened taken made.cleared lays target target' words words' paths paths' found
-            (omega (arith, lays.front.long)) a b c
-            (at_opening octets check order tally opened taken new_sheet sheet 0 symbols r opens take target target' words words' paths paths' found decode),
+        performed.0 ∙ ap (λ t. Ok (record { total = t })) total,
+        λ target target' scratch scratch' decoded rooms decodes.
+            found_sent report check k order before buffer rate is size encode tally opened left made.cleared lays sheet
+            (shape_after shape tally opened left new_sheet sheet 0 symbols r opens takes) target target' scratch scratch' decoded
+            (omega (arith, lays.front.long)) rooms decodes,
       )

@@ -1,11 +1,27 @@
 -- The theorem on whole runs. Assumes nothing.
-use Rattle.std.proofs.Common.{ℕ, Bool, Option}
-use Rattle.weighing.specs.Scales.{Scale}
+use Rattle.std.proofs.Common.{ap, ◌∙◌}
+use Rattle.std.proofs.Common.{◌+◌, length}
+use Rattle.code.specs.Shapes.{Shape}
+use Rattle.weighing.specs.Alphabets.{Alphabet}
 use Rattle.weighing.specs.declared.Weighing.{Ghosts}
 use Rattle.sender.proofs.Rounds.{sends_in_rounds}
-use Rattle.nearest.specs.Whole.{NearestMessage}
-use Rattle.nearest.proofs.Keeping.{tally_part}
-use Rattle.nearest.proofs.Stretching.{growth_part}
+use Rattle.sheet.specs.Runs.{Agrees, Standing}
+use Rattle.sheet.specs.Books.{Book}
+use Rattle.sheet.proofs.Keeping.{named_by_book, run_agrees}
+use Rattle.sheet.specs.Runs.{book_of}
+use Rattle.nearest.specs.Whole.{ByTheBook, NearestMessage, TallyPart}
+use Rattle.nearest.proofs.Growing.{growth_part}
 
-pub whole : {V A : Type 0} (W : Type 0) (g : Ghosts W V) (s : Scale V) (reads : ℕ → Option A) (against : A → Bool → V) → NearestMessage W g s reads against
-whole W g s reads against = (tally_part W g s reads against, growth_part W g s reads against, sends_in_rounds)
+module _ {W V A : Type 0} (g : Ghosts W V) (a : Alphabet A V) where
+  by_the_book : (shape : Shape) (book : Book) (st : Standing g) → Agrees g a shape book st → ByTheBook g a shape book st
+  by_the_book shape book st agrees = record {
+    agrees = agrees;
+    take_answers = λ lent left start octets sheet taken takes. takes.1.total_is ∙ ap (λ n. n + length octets) agrees.count_is;
+    decode_names = named_by_book g a shape book st agrees;
+  }
+
+  tally_part : TallyPart g a
+  tally_part shape calls st run = by_the_book shape (book_of calls) st (run_agrees g a shape calls st run)
+
+  pub whole : NearestMessage g a
+  whole = (tally_part, growth_part g a, sends_in_rounds)

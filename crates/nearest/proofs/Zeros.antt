@@ -1,7 +1,7 @@
 -- A message weighs nothing just where none of its parts does. Assumes nothing.
 use Rattle.std.proofs.Common.{◌≡◌, ℕ, zero, suc, ◌+◌, ◌<◌, ◌≤◌, List, [], ◌∷◌, length, get_or, refl, ap, ◌∙◌, not-suc-le-zero, add-zero, zero-add, arith, lit≤}
 use Rattle.code.specs.Register.{silent}
-use Rattle.code.specs.declared.Outputs.{Outputs}
+use Rattle.code.specs.declared.registers.Outputs.{Outputs}
 use Rattle.weighing.specs.Scales.{Scale}
 use Rattle.search.specs.Weights.{Sums, added, part}
 use Rattle.search.proofs.Orders.{reflexive}

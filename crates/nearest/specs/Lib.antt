@@ -1,3 +1,3 @@
-pub mod Runs
+pub mod ShortRuns
 pub mod Undamaged
 pub mod Whole

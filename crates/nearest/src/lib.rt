@@ -1,4 +1,5 @@
-// What holds of whole runs of sheets and senders, for every reading, and of an undamaged payload by the hard one.
+// What holds of whole runs of sheets and senders, for every reading, and of an undamaged payload by
+// the hard one.
 #![tactic(auto)]
 
 mod runs;
@@ -6,16 +7,5 @@ mod runs;
 mod tests;
 mod undamaged;
 
-pub use runs::nearest_message;
-use search::{FindRefusal, Found};
-use sheet::{Sheet, TakeRefusal};
+pub use runs::{ShortRun, nearest_message};
 pub use undamaged::undamaged_payload;
-use weighing::Reading;
-
-// What a short run leaves: the sheet, and what its take and its decode answered.
-#[derive(Drop)]
-pub struct ShortRun<R: Reading> {
-    pub sheet: Sheet<R>,
-    pub taken: Result<usize, TakeRefusal>,
-    pub found: Result<Found<R::Value>, FindRefusal>,
-}

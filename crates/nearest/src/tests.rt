@@ -1,7 +1,7 @@
 // A payload that comes back, and a run that is refused at its opening.
 use crate::{nearest_message, undamaged_payload};
 use block::PlanRefusal;
-use search::Entry;
+use search::{Entry, Scratch};
 use sheet::OpenRefusal;
 use weighing::soft::Soft;
 
@@ -14,10 +14,8 @@ fn echo(report: u8, k: usize) -> Result<Option<(u8, u32)>, PlanRefusal> {
         &mut [0; 8],
         &mut [Entry { zero: 7, one: 7 }; 64],
         &mut target,
-        &mut [0; 16],
-        &mut [None; 32],
     )?;
-    Ok(run.found.ok().map(|found| (target[0], found.weight)))
+    Ok(run.decoded.ok().map(|decoded| (target[0], decoded.weight)))
 }
 
 #[test]
@@ -30,14 +28,11 @@ fn an_undamaged_payload_comes_back(rt: HostRuntime) {
 #[test]
 fn a_run_wants_a_whole_tally(rt: HostRuntime) {
     let mut tally = [Entry { zero: 7, one: 7 }; 63];
-    let run = nearest_message::<Soft>(
-        &mut tally,
-        0,
-        &[],
-        &mut [0; 2],
-        &mut [0; 16],
-        &mut [None; 32],
-    );
+    let mut scratch = Scratch {
+        survivors: &mut [0; 16],
+        paths: &mut [None; 32],
+    };
+    let run = nearest_message::<Soft>(&mut tally, 0, &[], &mut [0; 2], &mut scratch);
     assert_eq!(rt; run.err(), Some(OpenRefusal::Tally));
     assert_eq!(rt; tally[0].zero, 7);
 }

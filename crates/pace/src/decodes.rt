@@ -4,8 +4,8 @@ use crate::blocks::{CHECK, coded, report};
 use crate::noise::{Noise, Noted};
 use block::{Size, bit_of};
 use code::Order;
-use search::{Entry, Found};
-use sheet::Sheet;
+use search::{Entry, Scratch};
+use sheet::{Decoded, Sheet, Verdict};
 use std::alloc::{AllocError, Global};
 use std::fmt;
 use std::time::Instant;
@@ -21,7 +21,7 @@ fn heard<R: Noted>(heap: Global, noise: &mut Noise, buffer: &[u8]) -> Result<Vec
     Ok(symbols)
 }
 
-// A sheet with its tally, the symbols that it takes, and the buffers that its decodes are lent.
+// A sheet with its tally, the symbols that it takes, and what its decodes are lent.
 #[derive(Drop)]
 struct Receiver<R: Noted> {
     symbols: Vec<u8>,
@@ -61,20 +61,21 @@ impl<R: Noted> Receiver<R> {
     // Forgets all symbols and takes them anew; answers their number.
     fn take(&mut self) -> anyhow::Result<usize> {
         self.sheet.wipe(self.tally.as_mut_slice())?;
-        Ok(
-            self.sheet
-                .take(self.tally.as_mut_slice(), 0, self.symbols.as_slice())?,
-        )
+        let taken = self
+            .sheet
+            .take(self.tally.as_mut_slice(), 0, self.symbols.as_slice())?;
+        Ok(taken.total)
     }
 
-    fn decode(&mut self) -> anyhow::Result<Found<R::Value>> {
+    fn decode(&mut self) -> anyhow::Result<Decoded<R::Value>> {
+        let mut scratch = Scratch {
+            survivors: self.survivors.as_mut_slice(),
+            paths: self.paths.as_mut_slice(),
+        };
+        let target = self.target.as_mut_slice();
         Ok(
-            self.sheet.decode(
-                self.tally.as_slice(),
-                self.target.as_mut_slice(),
-                self.survivors.as_mut_slice(),
-                self.paths.as_mut_slice(),
-            )?,
+            self.sheet
+                .decode(self.tally.as_slice(), target, &mut scratch)?,
         )
     }
 }
@@ -85,19 +86,20 @@ where
 {
     // Tells what a decode names.
     fn tell(&mut self, rt: &HostRuntime) -> anyhow::Result<()> {
-        let found = self.decode()?;
+        let decoded = self.decode()?;
         let octets = self.sheet.octets();
         let named = hex::encode(rt.alloc(), self.target.as_slice())?;
         println!(rt;
             "{} {octets} {} {} {named}",
             R::NAME,
-            found.weight,
-            found.check_fits
+            decoded.weight,
+            decoded.verdict == Verdict::Fits
         )?;
         Ok(())
     }
 
-    // Tells how long so many decodes take together. The sum of their weights is told too, so that none is left out.
+    // Tells how long so many decodes take together. The sum of their weights is told too, so that
+    // none is left out.
     fn time_decode(&mut self, rt: &HostRuntime, times: usize) -> anyhow::Result<()> {
         let mut sum = R::zero();
         let start = Instant::now(rt)?;

@@ -1,4 +1,5 @@
-// Times decode and encode. What they answer goes to standard output, and is the same in each run; the times go to standard error.
+// Times decode and encode. What they answer goes to standard output, and is the same in each run;
+// the times go to standard error.
 #![tactic(auto)]
 
 mod blocks;
@@ -15,7 +16,8 @@ use weighing::soft::Soft;
 // The lengths of the reports that are decoded, in octets.
 const LENGTHS: [usize; 4] = [1, 20, 54, 512];
 
-// How much is timed: so many rounds, and in each at least so many steps of decoding and so many batches of encoding.
+// How much is timed: so many rounds, and in each at least so many steps of decoding and so many
+// batches of encoding.
 #[derive(Clone, Copy)]
 pub(crate) struct Effort {
     pub(crate) rounds: u32,

@@ -1,4 +1,5 @@
-// A row of numbers that look like chance, and what a channel makes of a bit. bench/peers.c has the same row.
+// A row of numbers that look like chance, and what a channel makes of a bit. bench/peers.c has the
+// same row.
 use weighing::Reading;
 use weighing::hard::Hard;
 use weighing::soft::Soft;

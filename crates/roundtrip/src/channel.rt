@@ -1,4 +1,5 @@
-// A bad channel that is the same in every run: it turns some bits and mutes others. A turned bit is heard with less level.
+// A bad channel that is the same in every run: it turns some bits and mutes others. A turned bit is
+// heard with less level.
 use block::bit_of;
 use std::alloc::{AllocError, Global};
 use weighing::Reading;
@@ -14,7 +15,8 @@ pub(crate) enum Fate {
     Mute,
 }
 
-// A reading whose receiver notes each bit as an octet, which the reading then reads: as a level, if it says no other.
+// A reading whose receiver notes each bit as an octet, which the reading then reads: as a level, if
+// it says no other.
 pub(crate) trait Noted: Reading {
     fn note(noise: &mut Noise, bit: bool, fate: Fate) -> u8 {
         noise.level(bit, fate)

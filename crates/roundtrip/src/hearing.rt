@@ -1,10 +1,11 @@
-// The receiving side: what arrives is taken onto a sheet and decoded until the check fits. One text for every reading.
+// The receiving side: what arrives is taken onto a sheet and decoded until the check fits. One text
+// for every reading.
 use crate::channel::{Noise, Noted};
 use crate::sending::{Ending, Report, Sending};
 use crate::text::Text;
 use code::Order;
-use search::{Entry, Found};
-use sheet::Sheet;
+use search::{Entry, Scratch};
+use sheet::{Decoded, Sheet, Verdict};
 use std::fmt;
 
 // How many octets are asked for where the check does not fit yet, and how often at most.
@@ -12,7 +13,8 @@ const MORE: usize = 16;
 
 const ROUNDS: usize = 12;
 
-// The two sides of one report: its sending; and the sheet with its tally, and the buffers that a decode is lent.
+// The two sides of one report: its sending; and the sheet with its tally, and what a decode is
+// lent.
 #[derive(Drop)]
 struct Sides<'a, R: Noted> {
     sending: Sending<'a>,
@@ -66,8 +68,9 @@ where
             .sheet
             .take(self.tally.as_mut_slice(), start, heard.symbols.as_slice())
         {
-            Ok(total) => println!(self.sending.rt;
-                "  They are taken from octet {start} on: {total} symbols in all."
+            Ok(taken) => println!(self.sending.rt;
+                "  They are taken from octet {start} on: {} symbols in all.",
+                taken.total
             )?,
             Err(refusal) => println!(self.sending.rt;
                 "  The take is refused with {}.",
@@ -90,15 +93,18 @@ where
 
     // Decodes, and answers whether the check fits.
     fn decode(&mut self) -> anyhow::Result<bool> {
-        match self.sheet.decode(
-            self.tally.as_slice(),
-            self.target.as_mut_slice(),
-            self.survivors.as_mut_slice(),
-            self.paths.as_mut_slice(),
-        ) {
-            Ok(found) => {
-                self.tell(&found)?;
-                Ok(found.check_fits)
+        let mut scratch = Scratch {
+            survivors: self.survivors.as_mut_slice(),
+            paths: self.paths.as_mut_slice(),
+        };
+        let target = self.target.as_mut_slice();
+        match self
+            .sheet
+            .decode(self.tally.as_slice(), target, &mut scratch)
+        {
+            Ok(decoded) => {
+                self.tell(&decoded)?;
+                Ok(decoded.verdict == Verdict::Fits)
             }
             Err(_) => {
                 println!(self.sending.rt; "  The decode is refused.")?;
@@ -107,15 +113,14 @@ where
         }
     }
 
-    // The message that was named, its weight, and whether its check fits.
-    fn tell(&self, found: &Found<R::Value>) -> anyhow::Result<()> {
+    // The message that was named, its weight, and the verdict on it.
+    fn tell(&self, decoded: &Decoded<R::Value>) -> anyhow::Result<()> {
         let named = self.target.as_slice();
         let text = Text(&named[..self.sheet.octets().min(named.len())]);
-        let weight = found.weight;
-        let verdict = if found.check_fits {
-            "fits"
-        } else {
-            "does not fit"
+        let weight = decoded.weight;
+        let verdict = match decoded.verdict {
+            Verdict::Fits => "fits",
+            Verdict::DoesNotFit => "does not fit",
         };
         println!(self.sending.rt;
             "  The nearest message is \"{text}\": its weight is {weight}, and its check {verdict}."

@@ -39,7 +39,8 @@ impl Report {
         let block = self.size.block_octets();
         let field = self.field;
         println!(rt;
-            "The report has {octets} octets; with a check of {check} bits and the tail its block has {block}."
+            "The report has {octets} octets; with a check of {check} bits and the tail \
+             its block has {block}."
         )?;
         println!(rt; "The check field is {field:012b}.")?;
         let coded = self.buffer.len();
@@ -105,7 +106,8 @@ impl<'a> Sending<'a> {
         self.pass(count, Ending::Confirmed)
     }
 
-    // Copies octets in a passage that ends so, and shows where the sender stood and where it stands.
+    // Copies octets in a passage that ends so, and shows where the sender stood and where it
+    // stands.
     pub(crate) fn pass(&mut self, count: usize, ending: Ending) -> anyhow::Result<Vec<u8>> {
         let rt = self.rt;
         let before = self.standing();
@@ -116,7 +118,8 @@ impl<'a> Sending<'a> {
         copied?;
         let after = self.standing();
         println!(rt;
-            "  A passage of {count} octets is copied and {ending}: the sender stood at octet {before} and stands at {after}."
+            "  A passage of {count} octets is copied and {ending}: \
+             the sender stood at octet {before} and stands at {after}."
         )?;
         Ok(target)
     }

@@ -1,4 +1,5 @@
-// Octets shown as text, with a dot for each that is no printable character; no derive knows that rule.
+// Octets shown as text, with a dot for each that is no printable character; no derive knows that
+// rule.
 use std::fmt;
 
 #[derive(Clone, Copy)]

@@ -1,7 +1,7 @@
 -- A buffer whose front is replaced by as many places. Assumes nothing.
 use Rattle.std.proofs.Common.{◌≡◌, ℕ, ◌≤◌, List, ◌++◌, length, drop, ◌∙◌, arith}
 use Rattle.std.proofs.lemmas.List.{drop_at, length-append, length-drop}
-use Rattle.search.specs.Found.{UsesFront}
+use Rattle.search.specs.Scratch.{UsesFront}
 
 pub front_of : {A : Type 0} (k : ℕ) (before new : List A) → length new ≡ k → k ≤ length before → UsesFront k before (new ++ drop k before)
 front_of k before new e h = record {

@@ -4,7 +4,7 @@ use Rattle.std.proofs.lemmas.Bool.{ne_eqb}
 use Rattle.code.specs.Columns.{index_of, is_order}
 use Rattle.code.specs.Places.{output, place_of}
 use Rattle.code.specs.Register.{cleared, coded, with_tail}
-use Rattle.code.specs.declared.Outputs.{Outputs}
+use Rattle.code.specs.declared.registers.Outputs.{Outputs}
 use Rattle.code.proofs.Runs.{trace_length}
 use Rattle.weighing.specs.Scales.{Scale}
 use Rattle.search.specs.Weights.{Sums, added, part, weight}

@@ -5,7 +5,7 @@ pub mod Bridge
 pub mod Placing
 pub mod Words
 pub mod Rows
-pub mod Settling
+pub mod Selecting
 pub mod Finish
 pub mod Fronts
 pub mod Traces

@@ -6,7 +6,7 @@ use Rattle.std.proofs.lemmas.Bool.{ne_eqb}
 use Rattle.code.specs.Columns.{index_of, is_order}
 use Rattle.code.proofs.Ordered.{order_index}
 use Rattle.code.specs.Places.{place_of}
-use Rattle.search.specs.Paths.{ColumnPlaces}
+use Rattle.search.specs.Places.{ColumnPlaces}
 
 -- each column ends within the buffer
 pub column_ends : (order : List ℕ) → is_order order ≡ true → (n a : ℕ) → a < 24 → 8 * n + n * index_of a order + n ≤ 32 * n

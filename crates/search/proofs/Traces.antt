@@ -5,9 +5,8 @@ use Rattle.std.proofs.Math.Nat.{mul-suc, mul-zero}
 use Rattle.std.proofs.Math.Seq.{drop-cons}
 use Rattle.std.specs.Simd.{first_chunks}
 use Rattle.std.proofs.lemmas.List.{drop-drop, drop-set, get_or-append-add, get_or-take, length-reverse, reverse-append, take-take, take_at}
-use Rattle.block.specs.Bits.{bit}
-use Rattle.search.specs.Paths.{input, origin, predecessor, start}
-use Rattle.search.proofs.Trellis.{origin_length}
+use Rattle.search.specs.Paths.{input, named_predecessor, survivor_path, survivor_start}
+use Rattle.search.proofs.Trellis.{length-survivor_path}
 
 -- a value that is written from the back on makes one more right
 pub right_more : {A : Type 0} (xs ys : List A) (above t : ℕ) (y d : A) → above ≡ t + 1 → t < length xs → t < length ys
@@ -17,57 +16,57 @@ right_more xs ys above t y d up within known right here =
 
 -- one step back: its bit comes in front of those that are written
 pub step_more : (survivors : List ℕ) (bits : List Bool) (above t s p : ℕ) (u : Bool) → above ≡ t + 1 → t < length bits
-    → p ≡ predecessor (bit s (get_or survivors t 0)) s → u ≡ input p s
-    → reverse (origin survivors t p) ++ drop t (set bits t u) ≡ reverse (origin survivors above s) ++ drop above bits
+    → p ≡ named_predecessor (get_or survivors t 0) s → u ≡ input p s
+    → reverse (survivor_path survivors t p) ++ drop t (set bits t u) ≡ reverse (survivor_path survivors above s) ++ drop above bits
 step_more survivors bits above t s p u up within from is =
-    let q = predecessor (bit s (get_or survivors t 0)) s in
-    let back : ℕ → List Bool = λ x. reverse (origin survivors t x) in
+    let q = named_predecessor (get_or survivors t 0) s in
+    let back : ℕ → List Bool = λ x. reverse (survivor_path survivors t x) in
     ap (λ xs. back p ++ xs) (drop-set bits t u within) ∙ sym (append_assoc (back p) (u ∷ []) (drop (t + 1) bits))
     ∙ (λ i. (back (from i) ++ (is ∙ ap (λ x. input x s) from) i ∷ []) ++ drop (t + 1) bits)
-    ∙ ap (λ xs. xs ++ drop (t + 1) bits) (sym (reverse-cons (input q s) (origin survivors t q)) ∙ ap (λ n. reverse (origin survivors n s)) (sym (add-one t)))
-    ∙ ap (λ n. reverse (origin survivors n s) ++ drop n bits) (sym up)
+    ∙ ap (λ xs. xs ++ drop (t + 1) bits) (sym (reverse-cons (input q s) (survivor_path survivors t q)) ∙ ap (λ n. reverse (survivor_path survivors n s)) (sym (add-one t)))
+    ∙ ap (λ n. reverse (survivor_path survivors n s) ++ drop n bits) (sym up)
 
-pub start_more : (survivors : List ℕ) (above t s p : ℕ) → above ≡ t + 1 → p ≡ predecessor (bit s (get_or survivors t 0)) s → start survivors t p ≡ start survivors above s
-start_more survivors above t s p up from = ap (start survivors t) from ∙ ap (λ n. start survivors n s) (sym (up ∙ add-one t))
+pub start_more : (survivors : List ℕ) (above t s p : ℕ) → above ≡ t + 1 → p ≡ named_predecessor (get_or survivors t 0) s → survivor_start survivors t p ≡ survivor_start survivors above s
+start_more survivors above t s p up from = ap (survivor_start survivors t) from ∙ ap (λ n. survivor_start survivors n s) (sym (up ∙ add-one t))
 
 -- a path by its last k steps and those before
 pub split : (survivors words : List ℕ) (m k s : ℕ) → ((i : ℕ) → i < k → get_or words i 0 ≡ get_or survivors (m + i) 0)
-    → origin survivors (m + k) s ≡ origin words k s ++ origin survivors m (start words k s)
-split survivors words m zero s same = ap (λ n. origin survivors n s) (add-zero m)
+    → survivor_path survivors (m + k) s ≡ survivor_path words k s ++ survivor_path survivors m (survivor_start words k s)
+split survivors words m zero s same = ap (λ n. survivor_path survivors n s) (add-zero m)
 split survivors words m (suc k) s same =
-    let p : ℕ → ℕ = λ w. predecessor (bit s w) s in
-    ap (λ n. origin survivors n s) (add-suc m k)
-    ∙ ap (λ w. input (p w) s ∷ origin survivors (m + k) (p w)) (sym (same k (omega arith)))
+    let p : ℕ → ℕ = λ w. named_predecessor w s in
+    ap (λ n. survivor_path survivors n s) (add-suc m k)
+    ∙ ap (λ w. input (p w) s ∷ survivor_path survivors (m + k) (p w)) (sym (same k (omega arith)))
     ∙ ap (λ us. input (p (get_or words k 0)) s ∷ us) (split survivors words m k (p (get_or words k 0)) (λ i h. same i (omega arith)))
 
 -- the steps from m on that have words of their own: where the path gives the first bits, so do they and the path up to them
 module _ (survivors words : List ℕ) (all : List Bool) (m s : ℕ) (within : m + length words ≤ length all)
     (same : (i : ℕ) → i < length words → get_or words i 0 ≡ get_or survivors (m + i) 0)
-    (traced : reverse (origin survivors (m + length words) s) ≡ take (m + length words) all) where
+    (traced : reverse (survivor_path survivors (m + length words) s) ≡ take (m + length words) all) where
   abbrev from : ℕ
-  from = start words (length words) s
+  from = survivor_start words (length words) s
 
-  abbrev early : List Bool
-  early = reverse (origin survivors m from)
+  abbrev before : List Bool
+  before = reverse (survivor_path survivors m from)
 
   abbrev late : List Bool
-  late = reverse (origin words (length words) s)
+  late = reverse (survivor_path words (length words) s)
 
-  joined : early ++ late ≡ take (m + length words) all
+  joined : before ++ late ≡ take (m + length words) all
   joined =
-      sym (reverse-append (origin words (length words) s) (origin survivors m from))
+      sym (reverse-append (survivor_path words (length words) s) (survivor_path survivors m from))
       ∙ ap reverse (sym (split survivors words m (length words) s same)) ∙ traced
 
-  early_long : length early ≡ m
-  early_long = length-reverse (origin survivors m from) ∙ origin_length survivors m from
+  before_long : length before ≡ m
+  before_long = length-reverse (survivor_path survivors m from) ∙ length-survivor_path survivors m from
 
-  pub before_words : early ≡ take m all
-  before_words = sym (take_at early late m early_long) ∙ ap (take m) joined ∙ take-take m (m + length words) all (omega arith)
+  pub before_words : before ≡ take m all
+  before_words = sym (take_at before late m before_long) ∙ ap (take m) joined ∙ take-take m (m + length words) all (omega arith)
 
   pub bits_of_words : (i : ℕ) → i < length words → get_or late i false ≡ get_or all (m + i) false
   bits_of_words i h =
-      sym (get_or-append-add early late i false)
-      ∙ (λ j. get_or (joined j) (early_long j + i) false)
+      sym (get_or-append-add before late i false)
+      ∙ (λ j. get_or (joined j) (before_long j + i) false)
       ∙ get_or-take (m + length words) all (m + i) false (omega arith)
 
 -- the chunk of index b

@@ -2,12 +2,13 @@
 use Rattle.std.proofs.Common.{◌≡◌, ℕ, zero, suc, ◌<◌, Bool, true, false, ◌&&◌, eqb, List, ◌∷◌, length, get_or, sym, refl, ap, ◌∙◌, arith}
 use mathlib.Core.Bool.{beq}
 use Rattle.std.proofs.lemmas.Bool.{and_parts, eqb-true}
+use Rattle.std.proofs.lemmas.List.{length-reverse}
 use Rattle.block.specs.Bits.{bit, value}
 use Rattle.block.proofs.Bools.{same_is}
 use Rattle.block.proofs.Computed.{below}
 use Rattle.code.specs.Register.{Cells, cells_of, next, state_of}
 use Rattle.code.proofs.Steps.{cells_state}
-use Rattle.search.specs.Paths.{input, origin, predecessor}
+use Rattle.search.specs.Paths.{input, named_predecessor, predecessor, survivor_path, traceback}
 
 pub value_small : (b : Bool) → value b < 2
 value_small true = omega arith
@@ -59,14 +60,17 @@ came_from m u =
     )
 
 -- a path that survivors give has as many bits as steps
-pub origin_length : (survivors : List ℕ) (t s : ℕ) → length (origin survivors t s) ≡ t
-origin_length survivors zero s = refl
-origin_length survivors (suc t) s = ap suc (origin_length survivors t _)
+pub length-survivor_path : (survivors : List ℕ) (t s : ℕ) → length (survivor_path survivors t s) ≡ t
+length-survivor_path survivors zero s = refl
+length-survivor_path survivors (suc t) s = ap suc (length-survivor_path survivors t _)
 
--- and hangs on the words of those steps alone
-pub origin_same : (xs ys : List ℕ) (t s : ℕ) → ((k : ℕ) → k < t → get_or xs k 0 ≡ get_or ys k 0) → origin xs t s ≡ origin ys t s
-origin_same xs ys zero s same = refl
-origin_same xs ys (suc t) s same =
-    let word = same t (omega arith) in
-    ap (λ w. input (predecessor (bit s w) s) s ∷ origin xs t (predecessor (bit s w) s)) word
-    ∙ ap (λ rest. input (predecessor (bit s (get_or ys t 0)) s) s ∷ rest) (origin_same xs ys t _ (λ k h. same k (omega arith)))
+-- and so does it in the order of its bits
+pub length-traceback : (survivors : List ℕ) (k : ℕ) → length (traceback survivors k) ≡ length survivors
+length-traceback survivors k = length-reverse (survivor_path survivors (length survivors) k) ∙ length-survivor_path survivors (length survivors) k
+
+-- it hangs on the words of those steps alone
+pub survivor_path-same : (xs ys : List ℕ) (t k : ℕ) → ((j : ℕ) → j < t → get_or xs j 0 ≡ get_or ys j 0) → survivor_path xs t k ≡ survivor_path ys t k
+survivor_path-same xs ys zero k same = refl
+survivor_path-same xs ys (suc t) k same =
+    ap (λ w. input (named_predecessor w k) k ∷ survivor_path xs t (named_predecessor w k)) (same t (omega arith))
+    ∙ ap (λ rest. input (named_predecessor (get_or ys t 0) k) k ∷ rest) (survivor_path-same xs ys t _ (λ j h. same j (omega arith)))

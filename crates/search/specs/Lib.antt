@@ -1,3 +1,9 @@
 pub mod Weights
-pub mod Paths
+pub mod Scratch
 pub mod Found
+pub mod Quads
+pub mod Branches
+pub mod Paths
+pub mod Places
+pub mod Steps
+pub mod Blocks

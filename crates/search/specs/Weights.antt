@@ -2,7 +2,8 @@
 use Rattle.std.specs.Prelude.{◌≡◌, ℕ, suc, Bool, cond, List, [], ◌∷◌, map, length, slice_index_or}
 use Rattle.code.specs.Places.{output, place_of}
 use Rattle.code.specs.Register.{coded}
-use Rattle.code.specs.declared.Outputs.{Outputs}
+use Rattle.code.specs.Shapes.{Shape, block_length, message_length}
+use Rattle.code.specs.declared.registers.Outputs.{Outputs}
 use Rattle.weighing.specs.Scales.{Scale}
 use Rattle.search.specs.declared.Entry.{Entry}
 
@@ -28,12 +29,19 @@ module _ {V : Type 0} (s : Scale V) where
     abbrev pub added : s.Meaning → ℕ → List Outputs → s.Meaning
     added w t [] = w
     added w t (v ∷ vs) =
-        added (s.plus (s.plus (s.plus (s.plus w (part t v 1)) (part t v 2)) (part t v 3)) (part t v 4)) (suc t) vs
+        let p : ℕ → s.Meaning = part t v in
+        added (s.plus (s.plus (s.plus (s.plus w (p 1)) (p 2)) (p 3)) (p 4)) (suc t) vs
 
     -- the weight of a message
     unfoldable pub weight : List Bool → s.Meaning
     weight message = added s.zero 0 (coded message)
 
-    -- a message is any 8 * T + L bits; it is nearest where none weighs less
-    abbrev pub Nearest : ℕ → List Bool → Type 0
-    Nearest bits message = (other : List Bool) → length other ≡ bits → s.atmost (weight message) (weight other)
+  -- the weight of a message in a block of a shape
+  abbrev pub weight_of : Shape → Sums → List Bool → s.Meaning
+  weight_of shape sums message = weight shape.order (block_length shape) sums message
+
+  -- a message is any 8 * T + L bits; it is nearest where none weighs less
+  abbrev pub Nearest : Shape → Sums → List Bool → Type 0
+  Nearest shape sums message =
+      (other : List Bool) → length other ≡ message_length shape
+      → s.atmost (weight_of shape sums message) (weight_of shape sums other)

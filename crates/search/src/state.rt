@@ -1,7 +1,7 @@
 // A state of the register, and the steps that lead to it.
 ghost use Rattle.std.specs.Prelude.{◌≡◌, ◌<◌};
 ghost use Rattle.code.specs.Register.{cells_of, outputs, state_of};
-ghost use Rattle.search.specs.Paths.{cells, input, predecessor};
+ghost use Rattle.search.specs.Paths.{four_cells, input, predecessor};
 
 use block::bit_of;
 use code::{Outputs, feedback, step_from};
@@ -23,7 +23,7 @@ impl State {
 
     // The state of these cells.
     pub(crate) fn of_cells(m1: bool, m2: bool, m3: bool, m4: bool) -> State
-        ensures { result.number ≡ state_of (cells m1 m2 m3 m4) }
+        ensures { result.number ≡ state_of (four_cells m1 m2 m3 m4) }
     {
         State {
             number: 8 * m1 as u8 + 4 * m2 as u8 + 2 * m3 as u8 + m4 as u8,

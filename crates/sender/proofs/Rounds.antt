@@ -1,4 +1,4 @@
--- Every run of a sender sends the buffer in rounds. Assumes nothing.
+-- Every sending sends the buffer in rounds. Assumes nothing.
 use Rattle.std.proofs.Common.{◌≡◌, ℕ, ◌+◌, ◌-◌, ◌%◌, ◌<◌, ◌≤◌, inl, inr, List, ◌++◌, map, length, get_or, take, drop, None, Ok, Err, Result, rules, sym, refl, ap, ◌∙◌, subst, add-zero, add_assoc, zero-add, arith}
 use native.Mathlib.Nat.{zero-mod, mod-add-mod}
 use Rattle.std.proofs.lemmas.List.FromFn.{length-map-range_with_len, get_or-map-range_with_len, fill_by_all}
@@ -7,9 +7,9 @@ use Rattle.std.proofs.lemmas.List.{get_or-take, append-nil, take_at, length-appe
 use Rattle.std.proofs.lemmas.Bool.{cases_lt}
 use Rattle.std.proofs.lemmas.Nat.{mod_below}
 use Rattle.block.specs.Refusals.{first_refusal}
-use Rattle.sender.specs.declared.PassageRefusal.{PassageRefusal}
-use Rattle.sender.specs.Passages.{Guard, round_of, sent, copy_checks, CopyDoes}
-use Rattle.sender.specs.Runs.{Copies, none, next, OwnBuffer, Run, made, confirmed, given_up, written, asked_of, SendsInRounds}
+use Rattle.sender.specs.declared.passages.PassageRefusal.{PassageRefusal}
+use Rattle.sender.specs.Passages.{Guard, round_of, sent, copy_checks, Copies}
+use Rattle.sender.specs.Sendings.{CopiesInTurn, none, next, OwnBuffer, Sending, made, confirmed, given_up, written, asked_of, SendsInRounds}
 
 -- what is sent from octet a on, and then from behind that on
 sent_add : (buffer : List ℕ) (octets a m n : ℕ) → sent buffer octets a m ++ sent buffer octets (a + m) n ≡ sent buffer octets a (m + n)
@@ -48,7 +48,7 @@ record Followed (buffer : List ℕ) (g h : Guard) (a : ℕ) (wrote : List ℕ) (
 
 -- one copy more, performed or refused
 step : (buffer : List ℕ) (g h h' : Guard) (a : ℕ) (wrote : List ℕ) (asked : ℕ) (handed target target' : List ℕ) (count : ℕ) (r : Result Unit PassageRefusal)
-    → Followed buffer g h a wrote asked → CopyDoes handed target target' count h h' r → OwnBuffer h.round r handed buffer
+    → Followed buffer g h a wrote asked → Copies handed target target' count h h' r → OwnBuffer h.round r handed buffer
     → Followed buffer g h' a (wrote ++ written r count target') (asked + asked_of r count)
 step buffer g h h' a wrote asked handed target target' count (Ok x) f d own =
     let round = g.round in
@@ -72,13 +72,13 @@ step buffer g h h' a wrote asked handed target target' count (Err e) f d own =
     }
 
 -- a passage remembers where it began
-stays : {buffer : List ℕ} {g h : Guard} {wrote : List ℕ} {asked : ℕ} → Copies buffer g h wrote asked → h.before ≡ g.before
+stays : {buffer : List ℕ} {g h : Guard} {wrote : List ℕ} {asked : ℕ} → CopiesInTurn buffer g h wrote asked → h.before ≡ g.before
 stays none = refl
 stays (next c handed target target' count h' (Ok x) d own) = ap (λ k. k.before) d.1.1 ∙ stays c
 stays (next c handed target target' count h' (Err e) d own) = ap (λ k. k.before) d.2.1 ∙ stays c
 
 -- so it is after any copies on a passage
-followed : (buffer : List ℕ) (g h : Guard) (a : ℕ) (wrote : List ℕ) (asked : ℕ) → Copies buffer g h wrote asked → g.cursor ≡ a % g.round → Followed buffer g h a wrote asked
+followed : (buffer : List ℕ) (g h : Guard) (a : ℕ) (wrote : List ℕ) (asked : ℕ) → CopiesInTurn buffer g h wrote asked → g.cursor ≡ a % g.round → Followed buffer g h a wrote asked
 followed buffer g _ a _ _ none e =
     record {
       wrote_is = refl;
@@ -88,32 +88,34 @@ followed buffer g _ a _ _ none e =
 followed buffer g _ a _ _ (next {h} {wrote} {asked} c handed target target' count h' r d own) e =
     step buffer g h h' a wrote asked handed target target' count r (followed buffer g h a wrote asked c e) d own
 
--- what a run keeps up
+-- what a sending keeps up
 record Kept (octets check : ℕ) (buffer : List ℕ) (cursor : ℕ) (kept : List ℕ) (asked : ℕ) : Type 0 where
   kept_is : kept ≡ sent buffer (round_of octets check) 0 asked
   stands : cursor ≡ asked % round_of octets check
 
--- so it is after every step of a run
-upheld : (octets check : ℕ) (buffer : List ℕ) (cursor : ℕ) (kept : List ℕ) (asked : ℕ) → Run octets check buffer cursor kept asked → Kept octets check buffer cursor kept asked
+-- so it is after every step of a sending
+upheld : (octets check : ℕ) (buffer : List ℕ) (cursor : ℕ) (kept : List ℕ) (asked : ℕ) → Sending octets check buffer cursor kept asked → Kept octets check buffer cursor kept asked
 upheld octets check buffer _ _ _ (made s d) = record { kept_is = refl; stands = d.1.2 ∙ sym (zero-mod (round_of octets check)) }
-upheld octets check buffer _ _ _ (confirmed {cursor} {kept} {asked} {g} {h} {wrote} {more} run b c cursor' d) =
-    let k = upheld octets check buffer cursor kept asked run in
-    let f = followed buffer g h asked wrote more c (cc (k.stands, b)) in
+upheld octets check buffer _ _ _ (confirmed {cursor} {kept} {wrote} {asked} {more} {h} sending p cursor' d) =
+    let k = upheld octets check buffer cursor kept asked sending in
+    let b = p.begun in
+    let f = followed buffer p.g h asked wrote more p.copied (cc (k.stands, b)) in
     let joined = sent_add buffer (round_of octets check) 0 asked more in
     let from_here = zero-add asked in
     record { kept_is = cc; stands = cc }
-upheld octets check buffer _ _ _ (given_up {cursor} {kept} {asked} {g} {h} {wrote} {more} run b c cursor' d) =
-    let k = upheld octets check buffer cursor kept asked run in
-    record { kept_is = k.kept_is; stands = cc (stays c) }
+upheld octets check buffer _ _ _ (given_up {cursor} {kept} {wrote} {asked} {more} {h} sending p cursor' d) =
+    let k = upheld octets check buffer cursor kept asked sending in
+    let b = p.begun in
+    record { kept_is = k.kept_is; stands = cc (stays p.copied) }
 
 -- the confirmed octets as one list
-pub run_sent : (octets check : ℕ) (buffer : List ℕ) (cursor : ℕ) (kept : List ℕ) (asked : ℕ) → Run octets check buffer cursor kept asked → kept ≡ sent buffer (round_of octets check) 0 asked
-run_sent octets check buffer cursor kept asked run = (upheld octets check buffer cursor kept asked run).kept_is
+pub sending_sent : (octets check : ℕ) (buffer : List ℕ) (cursor : ℕ) (kept : List ℕ) (asked : ℕ) → Sending octets check buffer cursor kept asked → kept ≡ sent buffer (round_of octets check) 0 asked
+sending_sent octets check buffer cursor kept asked sending = (upheld octets check buffer cursor kept asked sending).kept_is
 
 pub sends_in_rounds : SendsInRounds
-sends_in_rounds octets check buffer cursor kept asked run =
+sends_in_rounds octets check buffer cursor kept asked sending =
     let octets' = round_of octets check in
-    let k = upheld octets check buffer cursor kept asked run in
+    let k = upheld octets check buffer cursor kept asked sending in
     let many : length kept ≡ asked = ap length k.kept_is ∙ length-map-range_with_len _ 0 asked in
     record {
       many = many;

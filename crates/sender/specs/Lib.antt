@@ -1,2 +1,2 @@
 pub mod Passages
-pub mod Runs
+pub mod Sendings

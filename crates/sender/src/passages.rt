@@ -1,9 +1,20 @@
-// Beginning a passage, copying the next octets, and keeping the new standing.
+// Passages: one begins, copies the next octets, and its end keeps the new standing or puts the old
+// one back.
 ghost use Rattle.std.specs.Prelude.{◌≡◌, ◌+◌, ◌%◌, ◌<◌, length};
-ghost use Rattle.sender.specs.Passages.{BeginDoes, CopyDoes, ConfirmDoes, GiveUpDoes, held, passage_case, sent};
+ghost use Rattle.sender.specs.Passages.{Begins, Confirms, Copies, GivesUp, held, passage_case};
+ghost use Rattle.sender.specs.Passages.{sent};
 
-use crate::{Passage, PassageRefusal};
 use block::Size;
+use thiserror::Error;
+
+// Why a passage copies nothing, and the number of each refusal.
+#[derive(Clone, Copy, Debug, PartialEq, Error)]
+pub enum PassageRefusal {
+    #[error("a copy has 1 to 4 * N octets")]
+    Count = 8,
+    #[error("the buffer has under 4 * N octets, or the target under the copy's count")]
+    Short = 6,
+}
 
 impl PassageRefusal {
     pub fn number(self) -> u8
@@ -13,7 +24,31 @@ impl PassageRefusal {
     }
 }
 
-// Fills the target from octet `start` of the round on, octet 0 after the last; answers the octet behind.
+// A piece that is being sent: a guard over a sender's cursor. Its end puts the cursor back, unless
+// it was confirmed.
+pub struct Passage<'a> {
+    cursor: &'a mut usize,
+    before: usize,
+    round: usize,
+}
+
+impl Drop for Passage<'_> {
+    // Puts the old standing back.
+    fn drop(self)
+        ensures { GivesUp (held self.entry) self.exit.0.now }
+    {
+        *self.cursor = self.before;
+        // Each field is named, since `..` would let the passage go once more.
+        let Self {
+            cursor: _,
+            before: _,
+            round: _,
+        } = self;
+    }
+}
+
+// Fills the target from octet `start` of the round on, octet 0 after the last; answers the octet
+// behind.
 fn copy_round(round: &[u8], start: usize, target: &mut [u8]) -> usize
     requires { 0 < length round.now }
     ensures wrote { target.new ≡ sent round.now (length round.now) start (length target.old) }
@@ -29,7 +64,7 @@ fn copy_round(round: &[u8], start: usize, target: &mut [u8]) -> usize
 impl<'a> Passage<'a> {
     // A passage from where the cursor stands, over the buffer of a block of this size.
     pub fn begin(size: Size, cursor: &'a mut usize) -> Passage<'a>
-        ensures does { BeginDoes size.octets size.check cursor.old (held result) }
+        ensures does { Begins size.octets size.check cursor.old (held result) }
         ensures same { result.cursor.ghost_name ≡ cursor.entry.ghost_name }
     {
         let before = *cursor;
@@ -41,14 +76,16 @@ impl<'a> Passage<'a> {
         }
     }
 
-    // `count` stands beside the target, so that a count above a round and a target that is too short are told apart.
+    // `count` stands beside the target, so that a count above a round and a target that is too
+    // short are told apart.
     pub fn copy(
         &mut self,
         buffer: &[u8],
         target: &mut [u8],
         count: usize,
     ) -> Result<(), PassageRefusal>
-        ensures does { CopyDoes buffer.now target.old target.new count (held self.old) (held self.new) result }
+        ensures does { Copies buffer.now target.old target.new count
+            (held self.old) (held self.new) result }
         ensures same { self.new.cursor.ghost_name ≡ self.old.cursor.ghost_name }
     {
         if count == 0 || count > self.round {
@@ -64,16 +101,17 @@ impl<'a> Passage<'a> {
 
     // Puts the old standing back, as does letting the passage go.
     pub fn give_up(self)
-        ensures { GiveUpDoes (held self.entry) self.exit.0.now }
+        ensures { GivesUp (held self.entry) self.exit.0.now }
     {
         let _given_up = self;
     }
 
     // Keeps the new standing.
     pub fn confirm(self)
-        ensures { ConfirmDoes (held self.entry) self.exit.0.now }
+        ensures { Confirms (held self.entry) self.exit.0.now }
     {
-        // Each field is named, since `..` would let the passage go, which puts the old standing back.
+        // Each field is named, since `..` would let the passage go, which puts the old standing
+        // back.
         let Self {
             cursor: _,
             before: _,

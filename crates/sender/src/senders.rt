@@ -1,15 +1,23 @@
 // Making a sender, and where it stands.
 ghost use Rattle.std.specs.Prelude.{◌≡◌, ◌%◌};
-ghost use Rattle.sender.specs.Passages.{NewDoes, round_of};
+ghost use Rattle.sender.specs.Passages.{MakesSender, round_of};
 
-use crate::Sender;
 use block::{Size, SizeRefusal};
 
+// What is sent of one block: its size, and the octet of the buffer that comes next.
+// The cursor is a plain number that a passage borrows. It is read modulo 4 * N, so every number is
+// a standing.
+#[derive(Debug, PartialEq, Drop)]
+pub struct Sender {
+    size: Size,
+    pub cursor: usize,
+}
+
 impl Sender {
-    // A sender for the block of a report of T octets with a check of L bits. The two come as numbers, since the call itself
-    // refuses what is no size.
+    // A sender for the block of a report of T octets with a check of L bits. The two come as
+    // numbers, since the call itself refuses what is no size.
     pub fn new(octets: usize, check: usize) -> Result<Sender, SizeRefusal>
-        ensures { NewDoes octets check result }
+        ensures { MakesSender octets check result }
     {
         let size = Size::new(octets, check)?;
         Ok(Sender { size, cursor: 0 })

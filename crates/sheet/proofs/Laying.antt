@@ -2,6 +2,7 @@
 use Rattle.std.proofs.Common.{◌≡◌, ℕ, suc, ◌+◌, ◌%◌, ◌<◌, Bool, true, false, cond, eqb, List, [], ◌∷◌, ◌++◌, length, get_or, drop, set, Some, None, Option, sym, refl, ap, ◌∙◌, arith}
 use Rattle.std.proofs.lemmas.List.{at_drop_more, length-set}
 use Rattle.std.proofs.lemmas.Bool.{eqb-true}
+use Rattle.weighing.specs.Alphabets.{Alphabet}
 use Rattle.weighing.specs.Scales.{Scale}
 use Rattle.search.specs.Weights.{entry_sums, side}
 use Rattle.search.specs.declared.Entry.{Entry}
@@ -9,7 +10,7 @@ use Rattle.sheet.specs.Books.{laid, sum_behind}
 use Rattle.sheet.specs.Laying.{laid_on}
 use Rattle.sheet.proofs.Sums.{sums_set, sums_there}
 
-module _ {A : Type 0} (reads : ℕ → Option A) where
+module _ {A V : Type 0} (a : Alphabet A V) where
   -- what one octet lays at a place, by what it reads as
   abbrev one_at : ℕ → Option A → List (ℕ × A)
   one_at place o = elim o [ None ↦ [] | Some symbol ↦ (place, symbol) ∷ [] ]
@@ -18,44 +19,44 @@ module _ {A : Type 0} (reads : ℕ → Option A) where
   one_by None q rest = refl
   one_by (Some symbol) q rest = refl
 
-  laid_one : (places k x : ℕ) (xs : List ℕ) → laid reads places k (x ∷ xs) ≡ one_at (k % places) (reads x) ++ laid reads places (suc k) xs
-  laid_one places k x xs = one_by (reads x) (k % places) (laid reads places (suc k) xs)
+  laid_one : (places k x : ℕ) (xs : List ℕ) → laid a places k (x ∷ xs) ≡ one_at (k % places) (a.reads x) ++ laid a places (suc k) xs
+  laid_one places k x xs = one_by (a.reads x) (k % places) (laid a places (suc k) xs)
 
-  module _ {V : Type 0} (s : Scale V) (against : A → Bool → V) where
+  module _ (s : Scale V) where
     -- more symbols are added behind those before
     pub sum_append : (w : s.Meaning) (p : ℕ) (b : Bool) (xs ys : List (ℕ × A))
-        → sum_behind reads s against w p b (xs ++ ys) ≡ sum_behind reads s against (sum_behind reads s against w p b xs) p b ys
+        → sum_behind a s w p b (xs ++ ys) ≡ sum_behind a s (sum_behind a s w p b xs) p b ys
     sum_append w p b [] ys = refl
-    sum_append w p b (x ∷ xs) ys = sum_append (cond (eqb x.0 p) (s.plus w (s.mean (against x.1 b))) w) p b xs ys
+    sum_append w p b (x ∷ xs) ys = sum_append (cond (eqb x.0 p) (s.plus w (s.mean (a.against x.1 b))) w) p b xs ys
 
     -- a weight at the place that is written, by whether it is the place asked for
     there : (t : Bool) (w here : s.Meaning) (place p : ℕ) (b : Bool) (o : Option A) → (t ≡ true → here ≡ w) → t ≡ eqb place p
-        → cond t (laid_on s against here b o) w ≡ sum_behind reads s against w p b (one_at place o)
+        → cond t (laid_on a s here b o) w ≡ sum_behind a s w p b (one_at place o)
     there true w here place p b None same e = same refl
     there false w here place p b None same e = refl
-    there true w here place p b (Some symbol) same e = ap (λ v. s.plus v (s.mean (against symbol b))) (same refl) ∙ ap (λ t. cond t (s.plus w (s.mean (against symbol b))) w) e
-    there false w here place p b (Some symbol) same e = ap (λ t. cond t (s.plus w (s.mean (against symbol b))) w) e
+    there true w here place p b (Some symbol) same e = ap (λ v. s.plus v (s.mean (a.against symbol b))) (same refl) ∙ ap (λ t. cond t (s.plus w (s.mean (a.against symbol b))) w) e
+    there false w here place p b (Some symbol) same e = ap (λ t. cond t (s.plus w (s.mean (a.against symbol b))) w) e
 
     -- an octet is laid at a place
     lays_at : (tally : List (Entry V)) (place x : ℕ) (entry d : Entry V) → place < length tally
-        → ((b : Bool) → s.mean (side b entry) ≡ laid_on s against (s.mean (side b (get_or tally place d))) b (reads x))
-        → (p : ℕ) (b : Bool) → entry_sums s (set tally place entry) p b ≡ sum_behind reads s against (entry_sums s tally p b) p b (one_at place (reads x))
+        → ((b : Bool) → s.mean (side b entry) ≡ laid_on a s (s.mean (side b (get_or tally place d))) b (a.reads x))
+        → (p : ℕ) (b : Bool) → entry_sums s (set tally place entry) p b ≡ sum_behind a s (entry_sums s tally p b) p b (one_at place (a.reads x))
     lays_at tally place x entry d h laying p b =
         sums_set s tally place entry h p b
-        ∙ ap (λ w. cond (eqb place p) w (entry_sums s tally p b)) (laying b ∙ ap (λ w. laid_on s against w b (reads x)) (sums_there s tally place d h b))
-        ∙ there (eqb place p) (entry_sums s tally p b) (entry_sums s tally place b) place p b (reads x) (λ e. ap (λ k. entry_sums s tally k b) (eqb-true place p e)) refl
+        ∙ ap (λ w. cond (eqb place p) w (entry_sums s tally p b)) (laying b ∙ ap (λ w. laid_on a s w b (a.reads x)) (sums_there s tally place d h b))
+        ∙ there (eqb place p) (entry_sums s tally p b) (entry_sums s tally place b) place p b (a.reads x) (λ e. ap (λ k. entry_sums s tally k b) (eqb-true place p e)) refl
 
     -- After the first i octets: what is left, laid from here on, gives the sums that all give from the start.
     pub record Laying (first : ℕ) (octets : List ℕ) (before : List (Entry V)) (i : ℕ) (tally : List (Entry V)) : Type 0 where
       pub long : length tally ≡ length before
       pub sums : (p : ℕ) (b : Bool)
-          → sum_behind reads s against (entry_sums s tally p b) p b (laid reads (length before) (first + i) (drop i octets))
-          ≡ sum_behind reads s against (entry_sums s before p b) p b (laid reads (length before) first octets)
+          → sum_behind a s (entry_sums s tally p b) p b (laid a (length before) (first + i) (drop i octets))
+          ≡ sum_behind a s (entry_sums s before p b) p b (laid a (length before) first octets)
 
     module _ (first : ℕ) (octets : List ℕ) (before : List (Entry V)) where
       pub laying_more : (i place : ℕ) (tally : List (Entry V)) (entry d : Entry V) → i < length octets → Laying first octets before i tally
           → place < length tally → place ≡ (first + i) % length before
-          → ((b : Bool) → s.mean (side b entry) ≡ laid_on s against (s.mean (side b (get_or tally place d))) b (reads (get_or octets i 0)))
+          → ((b : Bool) → s.mean (side b entry) ≡ laid_on a s (s.mean (side b (get_or tally place d))) b (a.reads (get_or octets i 0)))
           → Laying first octets before (i + 1) (set tally place entry)
       laying_more i place tally entry d h so within at laying =
           let places = length before in
@@ -67,12 +68,12 @@ module _ {A : Type 0} (reads : ℕ → Option A) where
                 let x = get_or octets i 0 in
                 let xs = drop (i + 1) octets in
                 let w = entry_sums s tally p b in
-                let left = laid reads places (suc k) xs in
-                ap (λ m. sum_behind reads s against (entry_sums s (set tally place entry) p b) p b (laid reads places m xs)) (sym on)
-                ∙ ap (λ v. sum_behind reads s against v p b left) (lays_at tally place x entry d within laying p b)
-                ∙ ap (λ q. sum_behind reads s against (sum_behind reads s against w p b (one_at q (reads x))) p b left) at
-                ∙ sym (sum_append w p b (one_at (k % places) (reads x)) left)
-                ∙ sym (ap (sum_behind reads s against w p b) (laid_one places k x xs))
-                ∙ sym (at_drop_more (λ ys. sum_behind reads s against w p b (laid reads places k ys)) octets i 0 h)
+                let left = laid a places (suc k) xs in
+                ap (λ m. sum_behind a s (entry_sums s (set tally place entry) p b) p b (laid a places m xs)) (sym on)
+                ∙ ap (λ v. sum_behind a s v p b left) (lays_at tally place x entry d within laying p b)
+                ∙ ap (λ q. sum_behind a s (sum_behind a s w p b (one_at q (a.reads x))) p b left) at
+                ∙ sym (sum_append w p b (one_at (k % places) (a.reads x)) left)
+                ∙ sym (ap (sum_behind a s w p b) (laid_one places k x xs))
+                ∙ sym (at_drop_more (λ ys. sum_behind a s w p b (laid a places k ys)) octets i 0 h)
                 ∙ so.sums p b;
           }

@@ -1,10 +1,11 @@
 -- The sums that entries mean, after a write and over a row of places. Assumes nothing.
-use Rattle.std.proofs.Common.{◌≡◌, ℕ, zero, suc, ◌*◌, ◌<◌, ◌≤◌, Bool, cond, eqb, List, [], ◌∷◌, ◌++◌, map, length, get_or, take, drop, set, Option, not-suc-le-zero, le_of_suc-le-suc, length-take-le, subst, sym, ap, ◌∙◌, inl, inr, arith}
+use Rattle.std.proofs.Common.{◌≡◌, ℕ, zero, suc, ◌*◌, ◌<◌, ◌≤◌, Bool, cond, eqb, List, [], ◌∷◌, ◌++◌, map, length, get_or, take, drop, set, not-suc-le-zero, le_of_suc-le-suc, length-take-le, subst, sym, ap, ◌∙◌, inl, inr, arith}
 use Rattle.std.proofs.lemmas.List.{get_or-map, get_or-set_other, get_or-set_same, get_or_append_left, length-map, map-append, map-set, take-append-drop}
 use Rattle.std.proofs.lemmas.Bool.{cases_eq, cond-false, cond-true, eq-eqb, ne_eqb}
 use Rattle.std.specs.List.{FoldsTo}
+use Rattle.weighing.specs.Alphabets.{Alphabet}
 use Rattle.weighing.specs.Scales.{Scale}
-use Rattle.search.specs.Found.{UsesFront}
+use Rattle.search.specs.Scratch.{UsesFront}
 use Rattle.search.specs.Weights.{entry_sums, side}
 use Rattle.search.specs.declared.Entry.{Entry}
 use Rattle.search.proofs.Fronts.{front_of}
@@ -49,31 +50,31 @@ module _ {V : Type 0} (s : Scale V) where
   sums_filled R f last (e ∷ es) folds each zero b h = each f e folds.0 folds.1 b
   sums_filled R f last (e ∷ es) folds each (suc p) b h = sums_filled R folds.0 last es folds.2 each p b (le_of_suc-le-suc h)
 
-  -- a tally whose front, the n octets' places of a block of m, is cleared or laid on, and whose rest stays
-  module _ (n m : ℕ) (is : n ≡ m) (before front : List (Entry V)) (whole : 32 * n ≤ length before) (long : length front ≡ length (take (32 * n) before)) where
+  -- a tally whose front, the k places of a block of m octets, is cleared or laid on, and whose rest stays
+  module _ (k m : ℕ) (is : k ≡ 32 * m) (before front : List (Entry V)) (whole : k ≤ length before) (long : length front ≡ length (take k before)) where
     abbrev after : List (Entry V)
-    after = front ++ drop (32 * n) before
+    after = front ++ drop k before
 
-    many : length (take (32 * n) before) ≡ 32 * m
-    many = length-take-le (32 * n) before whole ∙ ap (λ k. 32 * k) is
+    many : length (take k before) ≡ 32 * m
+    many = length-take-le k before whole ∙ is
 
     stays : UsesFront (32 * m) before after
-    stays = subst (λ k. UsesFront (32 * k) before after) is (front_of (32 * n) before front (long ∙ length-take-le (32 * n) before whole) whole)
+    stays = subst (λ j. UsesFront j before after) is (front_of k before front (long ∙ length-take-le k before whole) whole)
 
-    pub cleared_front : ((p : ℕ) (b : Bool) → p < length (take (32 * n) before) → entry_sums s front p b ≡ s.zero) → Cleared s m before after
+    pub cleared_front : ((p : ℕ) (b : Bool) → p < length (take k before) → entry_sums s front p b ≡ s.zero) → Cleared s m before after
     cleared_front zeros = record {
-      zeros = λ p b h. sums_front front (drop (32 * n) before) p b (omega (arith, long, many)) ∙ zeros p b (omega (arith, many));
+      zeros = λ p b h. sums_front front (drop k before) p b (omega (arith, long, many)) ∙ zeros p b (omega (arith, many));
       front = stays;
     }
 
-    pub laid_front : {A : Type 0} (reads : ℕ → Option A) (against : A → Bool → V) (start : ℕ) (octets : List ℕ)
-        → ((p : ℕ) (b : Bool) → entry_sums s front p b ≡ sum_behind reads s against (entry_sums s (take (32 * n) before) p b) p b (laid reads (length (take (32 * n) before)) (8 * start) octets))
-        → Laid s reads against m start octets before after
-    laid_front reads against start octets sums = record {
+    pub laid_front : {A : Type 0} (a : Alphabet A V) (start : ℕ) (octets : List ℕ)
+        → ((p : ℕ) (b : Bool) → entry_sums s front p b ≡ sum_behind a s (entry_sums s (take k before) p b) p b (laid a (length (take k before)) (8 * start) octets))
+        → Laid a s m start octets before after
+    laid_front a start octets sums = record {
       sums = λ p b h.
-          let own : entry_sums s (take (32 * n) before) p b ≡ entry_sums s before p b =
-          sym (sums_front (take (32 * n) before) (drop (32 * n) before) p b (omega (arith, many))) ∙ ap (λ xs. entry_sums s xs p b) (take-append-drop (32 * n) before) in
-          sums_front front (drop (32 * n) before) p b (omega (arith, long, many)) ∙ sums p b
-          ∙ (λ i. sum_behind reads s against (own i) p b (laid reads (many i) (8 * start) octets));
+          let own : entry_sums s (take k before) p b ≡ entry_sums s before p b =
+          sym (sums_front (take k before) (drop k before) p b (omega (arith, many))) ∙ ap (λ xs. entry_sums s xs p b) (take-append-drop k before) in
+          sums_front front (drop k before) p b (omega (arith, long, many)) ∙ sums p b
+          ∙ (λ i. sum_behind a s (own i) p b (laid a (many i) (8 * start) octets));
       front = stays;
     }

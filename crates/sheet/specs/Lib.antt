@@ -1,3 +1,5 @@
+pub mod Verdicts
 pub mod Books
 pub mod Calls
 pub mod Laying
+pub mod Runs

@@ -1,19 +1,22 @@
 // Reads a capture from standard input and prints its listing.
 #![tactic(auto)]
 
-ghost use Rattle.std.specs.Prelude.{◌<◌, ◌≤◌, length, take, IfOk};
-ghost use Rattle.std.specs.Io.KnownBytes.{Consumes, IsAtEnd};
+ghost use Rattle.std.specs.Prelude.{IfOk};
+ghost use Rattle.sheetread.specs.Filling.{Fills};
 
-use listing::{MOST_OCTETS, PLACES, write_by_letter};
+use listing::{MOST_CAPTURE_OCTETS, PLACES, write_by_letter};
 use search::Entry;
 use std::io::{self, BufWriter, Read, Write};
 
-// One octet more than a capture may have, so that one that is too long is seen to be, and nothing is read behind it.
-const INPUT: usize = MOST_OCTETS + 1;
+// One octet more than a capture may have, so that one that is too long is seen to be, and nothing
+// is read behind it.
+const INPUT: usize = MOST_CAPTURE_OCTETS + 1;
 
-// Fills the buffer with what comes, up to the end of the input or of the buffer; answers how many octets came.
+// Fills the buffer with what comes, up to the end of the input or of the buffer; answers how many
+// octets came.
 fn fill<I: Read>(input: &mut I, buffer: &mut [u8]) -> io::Result<usize>
-    ensures { IfOk result (λ octets. (octets ≤ length buffer.new) × Consumes (I.remaining input.old) (I.remaining input.new) (take octets buffer.new) × (octets < length buffer.new → IsAtEnd (I.remaining input.new))) }
+    ensures { IfOk result
+        (Fills (I.remaining input.old) (I.remaining input.new) buffer.new) }
 {
     let mut filled = 0;
     while filled < buffer.len() {

@@ -1,7 +1,7 @@
 // Encoding a report, and handing its buffer on.
 ghost use Rattle.code.specs.Calls.{encode_case};
 ghost use Rattle.sender.specs.Passages.{passage_case, round_of};
-ghost use Rattle.tally_c.specs.Coding.{EncodeTells, PayloadTells, SendDoes};
+ghost use Rattle.tally_c.specs.Coding.{Sends, TellsEncoded, TellsSent};
 ghost use Rattle.tally_c.specs.Numbers.{Numbers};
 
 use block::Size;
@@ -18,10 +18,11 @@ fn encode_number(encoded: Result<(), EncodeRefusal>) -> u8
     }
 }
 
-// Encodes a report into the first 4 * N octets of the buffer. Answers the number of the refusal, 0 where there is none.
+// Encodes a report into the first 4 * N octets of the buffer. Answers the number of the refusal, 0
+// where there is none.
 #[unsafe(no_mangle)]
 pub extern "C" fn tally_encode(columns: &[u8], report: &[u8], check: usize, buffer: &mut [u8]) -> u8
-    ensures { EncodeTells columns.now report.now check buffer.old buffer.new result }
+    ensures { TellsEncoded columns.now report.now check buffer.old buffer.new result }
 {
     match Order::new(columns) {
         Ok(order) => encode_number(encode_report(report, check, &order, buffer)),
@@ -37,7 +38,8 @@ fn send(
     target: &mut [u8],
     count: usize,
 ) -> Result<(), PassageRefusal>
-    ensures { SendDoes (round_of size.octets size.check) cursor.old cursor.new buffer.now target.old target.new count result }
+    ensures { Sends cursor.old cursor.new buffer.now target.old target.new count
+        (round_of size.octets size.check) result }
 {
     let mut passage = Passage::begin(size, cursor);
     passage.copy(buffer, target, count)?;
@@ -55,8 +57,8 @@ fn passage_number(sent: Result<(), PassageRefusal>) -> u8
     }
 }
 
-// The next `count` octets of a report's buffer, round after round, from the cursor on, which then stands behind them. Answers the
-// number of the refusal, 0 where there is none.
+// The next `count` octets of a report's buffer, round after round, from the cursor on, which then
+// stands behind them. Answers the number of the refusal, 0 where there is none.
 #[unsafe(no_mangle)]
 pub extern "C" fn tally_payload(
     octets: usize,
@@ -66,7 +68,8 @@ pub extern "C" fn tally_payload(
     target: &mut [u8],
     count: usize,
 ) -> u8
-    ensures { PayloadTells octets check cursor.old cursor.new buffer.now target.old target.new count result }
+    ensures { TellsSent cursor.old cursor.new buffer.now target.old target.new count
+        octets check result }
 {
     match Size::new(octets, check) {
         Ok(size) => passage_number(send(size, cursor, buffer, target, count)),

@@ -1,48 +1,25 @@
 // Naming the nearest message in one call: a sheet is opened, takes what came, and decodes.
-ghost use Rattle.std.specs.Prelude.{◌≡◌, ℕ, ◌≤◌, Option, length};
-ghost use Rattle.weighing.specs.Hard.{hard_reads, hard_weight};
-ghost use Rattle.weighing.specs.Levels.{level_reads, level_weight};
+ghost use Rattle.std.specs.Prelude.{◌≡◌};
+ghost use Rattle.weighing.specs.Hard.{hard_alphabet};
+ghost use Rattle.weighing.specs.Levels.{level_alphabet};
 ghost use Rattle.weighing.specs.Scales.{counted, largest};
-ghost use Rattle.tally_c.specs.Hearing.{HearDoes, HeardTells, ShownHeard, hear_case, index_of};
+ghost use Rattle.search.specs.Scratch.{contents};
+ghost use Rattle.tally_c.specs.Hearing.{Ample, Hears, ShowsHeard, TellsHeard};
 
-use crate::{HearRefusal, TallyHeard};
+use crate::TallyHeard;
+use crate::refusals::HearRefusal;
+use block::{MOST_PLACES, MOST_STEPS};
 use code::Order;
-use search::{Entry, Found};
-use sheet::{Sheet, TakeRefusal};
+use search::{Entry, Scratch};
+use sheet::{Decoded, Sheet, Verdict};
 use weighing::Reading;
 use weighing::hard::Hard;
 use weighing::soft::Soft;
 use weighing::worst::Worst;
 
-// The places of the largest sheet, and the steps of its block.
-const MOST_PLACES: usize = 16512;
-
-const MOST_STEPS: usize = 4128;
-
-impl HearRefusal {
-    fn number(self) -> u8
-        ensures { (first : Option ℕ) → result ≡ (hear_case first self).number }
-    {
-        match self {
-            HearRefusal::Order(refusal) => refusal.number(),
-            HearRefusal::Open(refusal) => refusal.number(),
-            HearRefusal::Take(refusal) => refusal.number(),
-            HearRefusal::Find(refusal) => refusal.number(),
-        }
-    }
-
-    // The index of an octet that is no symbol; 0 with every other refusal.
-    fn index(self) -> usize
-        ensures { result ≡ index_of self }
-    {
-        match self {
-            HearRefusal::Take(TakeRefusal::Symbol(index)) => index,
-            _ => 0,
-        }
-    }
-}
-
-// Opens a sheet over the tally, takes the symbols from octet `start` on, and names the nearest message in the target.
+// Opens a sheet over the tally, takes the symbols from octet `start` on, and names the nearest
+// message in the target. Tally and scratch are lent, since generic code can make no array that it
+// may lend on.
 fn hear<R: Reading>(
     columns: &[u8],
     octets: usize,
@@ -51,33 +28,33 @@ fn hear<R: Reading>(
     symbols: &[u8],
     target: &mut [u8],
     tally: &mut [Entry<R::Value>],
-    paths: &mut [Option<R::Value>],
-) -> Result<Found<R::Value>, HearRefusal>
-    requires tally { 16512 ≤ length tally.old }
-    requires paths { 32 ≤ length paths.old }
-    ensures { HearDoes R.Reading.reads R.Weighing.scale R.Reading.against columns.now octets check start symbols.now target.old target.new result }
+    scratch: &mut Scratch<'_, R::Value>,
+) -> Result<Decoded<R::Value>, HearRefusal>
+    requires { Ample tally.old (contents scratch.old) }
+    ensures { Hears R.Reading.alphabet R.Weighing.scale
+        (record { octets = octets; check = check; order = columns.now })
+        start symbols.now target.old target.new result }
 {
     let order = Order::new(columns).map_err(HearRefusal::Order)?;
     let mut sheet = Sheet::<R>::open(octets, check, order, tally).map_err(HearRefusal::Open)?;
     sheet
         .take(tally, start, symbols)
         .map_err(HearRefusal::Take)?;
-    let mut survivors = [0; MOST_STEPS];
     sheet
-        .decode(tally, target, &mut survivors, paths)
+        .decode(tally, target, scratch)
         .map_err(HearRefusal::Find)
 }
 
 // What was heard as C is handed it.
-fn shown(found: Result<Found<u32>, HearRefusal>) -> TallyHeard
-    ensures { ShownHeard found result }
+fn shown(heard: Result<Decoded<u32>, HearRefusal>) -> TallyHeard
+    ensures { ShowsHeard heard result }
 {
-    match found {
-        Ok(found) => TallyHeard {
+    match heard {
+        Ok(decoded) => TallyHeard {
             index: 0,
-            weight: found.weight,
+            weight: decoded.weight,
             refusal: 0,
-            check_fits: found.check_fits,
+            check_fits: decoded.verdict == Verdict::Fits,
         },
         Err(refusal) => TallyHeard {
             index: refusal.index(),
@@ -88,7 +65,7 @@ fn shown(found: Result<Found<u32>, HearRefusal>) -> TallyHeard
     }
 }
 
-// By the hard reading. Here and below the arrays stand in the call itself, since generic code can make none that it may lend on.
+// By the hard reading.
 #[unsafe(no_mangle)]
 pub extern "C" fn tally_hear_hard(
     columns: &[u8],
@@ -98,12 +75,24 @@ pub extern "C" fn tally_hear_hard(
     symbols: &[u8],
     target: &mut [u8],
 ) -> TallyHeard
-    ensures { HeardTells counted hard_reads hard_weight columns.now octets check start symbols.now target.old target.new result }
+    ensures { TellsHeard hard_alphabet counted
+        (record { octets = octets; check = check; order = columns.now })
+        start symbols.now target.old target.new result }
 {
     let mut tally = [Entry { zero: 0, one: 0 }; MOST_PLACES];
-    let mut paths = [None; 32];
+    let mut scratch = Scratch {
+        survivors: &mut [0; MOST_STEPS],
+        paths: &mut [None; 32],
+    };
     shown(hear::<Hard>(
-        columns, octets, check, start, symbols, target, &mut tally, &mut paths,
+        columns,
+        octets,
+        check,
+        start,
+        symbols,
+        target,
+        &mut tally,
+        &mut scratch,
     ))
 }
 
@@ -117,12 +106,24 @@ pub extern "C" fn tally_hear_soft(
     symbols: &[u8],
     target: &mut [u8],
 ) -> TallyHeard
-    ensures { HeardTells counted level_reads level_weight columns.now octets check start symbols.now target.old target.new result }
+    ensures { TellsHeard level_alphabet counted
+        (record { octets = octets; check = check; order = columns.now })
+        start symbols.now target.old target.new result }
 {
     let mut tally = [Entry { zero: 0, one: 0 }; MOST_PLACES];
-    let mut paths = [None; 32];
+    let mut scratch = Scratch {
+        survivors: &mut [0; MOST_STEPS],
+        paths: &mut [None; 32],
+    };
     shown(hear::<Soft>(
-        columns, octets, check, start, symbols, target, &mut tally, &mut paths,
+        columns,
+        octets,
+        check,
+        start,
+        symbols,
+        target,
+        &mut tally,
+        &mut scratch,
     ))
 }
 
@@ -136,24 +137,35 @@ pub extern "C" fn tally_hear_worst(
     symbols: &[u8],
     target: &mut [u8],
 ) -> TallyHeard
-    ensures { HeardTells largest level_reads level_weight columns.now octets check start symbols.now target.old target.new result }
+    ensures { TellsHeard level_alphabet largest
+        (record { octets = octets; check = check; order = columns.now })
+        start symbols.now target.old target.new result }
 {
     let mut tally = [Entry { zero: 0, one: 0 }; MOST_PLACES];
-    let mut paths = [None; 32];
-    let found = hear::<Worst>(
-        columns, octets, check, start, symbols, target, &mut tally, &mut paths,
-    );
-    shown(widened(found))
+    let mut scratch = Scratch {
+        survivors: &mut [0; MOST_STEPS],
+        paths: &mut [None; 32],
+    };
+    shown(widened(hear::<Worst>(
+        columns,
+        octets,
+        check,
+        start,
+        symbols,
+        target,
+        &mut tally,
+        &mut scratch,
+    )))
 }
 
 // A weight of one octet as a number of 32 bits.
-fn widened(found: Result<Found<u8>, HearRefusal>) -> Result<Found<u32>, HearRefusal>
-    ensures { result ≡ found }
+fn widened(heard: Result<Decoded<u8>, HearRefusal>) -> Result<Decoded<u32>, HearRefusal>
+    ensures { result ≡ heard }
 {
-    match found {
-        Ok(found) => Ok(Found {
-            weight: u32::from(found.weight),
-            check_fits: found.check_fits,
+    match heard {
+        Ok(decoded) => Ok(Decoded {
+            weight: u32::from(decoded.weight),
+            verdict: decoded.verdict,
         }),
         Err(refusal) => Err(refusal),
     }

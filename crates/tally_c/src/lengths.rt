@@ -1,14 +1,14 @@
 // From a report's octets to those of its first payload, and back.
 ghost use Rattle.std.specs.Prelude.{◌≡◌};
 ghost use Rattle.block.specs.Sizes.{OnlySize, back_checks, payload, plan_checks};
-ghost use Rattle.tally_c.specs.Numbers.{ShownLength, Numbered};
+ghost use Rattle.tally_c.specs.Numbers.{ShowsLength, TellsLength};
 
 use crate::TallyLength;
 use block::{PlanRefusal, back, plan};
 
 // A length or a refusal as C is handed it.
 fn told(length: Result<usize, PlanRefusal>) -> TallyLength
-    ensures { ShownLength length result }
+    ensures { ShowsLength length result }
 {
     match length {
         Ok(octets) => TallyLength { octets, refusal: 0 },
@@ -22,7 +22,7 @@ fn told(length: Result<usize, PlanRefusal>) -> TallyLength
 // P, from T, L and k.
 #[unsafe(no_mangle)]
 pub extern "C" fn tally_plan(octets: usize, check: usize, k: usize) -> TallyLength
-    ensures { Numbered (plan_checks octets check k) result.refusal (result.octets ≡ payload octets check k) (result.octets ≡ 0) }
+    ensures { TellsLength (plan_checks octets check k) (λ p. p ≡ payload octets check k) result }
 {
     told(plan(octets, check, k))
 }
@@ -30,7 +30,7 @@ pub extern "C" fn tally_plan(octets: usize, check: usize, k: usize) -> TallyLeng
 // T, from P, L and k.
 #[unsafe(no_mangle)]
 pub extern "C" fn tally_back(payload: usize, check: usize, k: usize) -> TallyLength
-    ensures { Numbered (back_checks payload check k) result.refusal (OnlySize payload check k result.octets) (result.octets ≡ 0) }
+    ensures { TellsLength (back_checks payload check k) (OnlySize payload check k) result }
 {
     told(back(payload, check, k))
 }

@@ -1,4 +1,5 @@
-// Random blocks: every length of a report with every length of a check, at all rates and by all readings.
+// Random blocks: every length of a report with every length of a check, at all rates and by all
+// readings.
 use crate::family::{Family, Findings, Outcome};
 use crate::frame::{CHECKS, Frame};
 use crate::random::Random;

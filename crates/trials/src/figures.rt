@@ -1,11 +1,12 @@
-// Worked figures: blocks of one octet with a check of four bits in order R, what is named of them, and the edges of a sheet.
+// Worked figures: blocks of one octet with a check of four bits in order R, what is named of them,
+// and the edges of a sheet.
 use crate::family::{Family, Findings, Outcome};
-use crate::frame::{Frame, ORDER_R};
+use crate::frame::{Frame, MOST_SYMBOLS, ORDER_R};
 use crate::hearing::Hearing;
 use crate::second::coder::{Coded, bits_of, message_of};
 use crate::second::nearest::weight_of;
 use crate::tried::Tried;
-use sheet::TakeRefusal;
+use sheet::{TakeRefusal, Taken};
 use std::alloc::Global;
 use weighing::hard::Hard;
 use weighing::soft::Soft;
@@ -162,13 +163,14 @@ fn full_sheet(rt: &HostRuntime) -> anyhow::Result<Outcome> {
     let mut hearing = Hearing::<Hard>::open(&frame)?;
     let mut all_pass = true;
     for turn in 1..=16384usize {
-        let count = hearing.offer(0, &[1; 64]);
-        all_pass = all_pass && count == Ok(turn.saturating_mul(64));
+        let taken = hearing.offer(0, &[1; 64]);
+        let total = turn.saturating_mul(64);
+        all_pass = all_pass && taken == Ok(Taken { total });
     }
     family.fact("one of the takes", all_pass)?;
-    family.fact("the count", hearing.sheet.count() == 1_048_576)?;
+    family.fact("the count", hearing.sheet.count() == MOST_SYMBOLS)?;
     family.fact("eight more", hearing.refused(0, &[1; 8]) == Some(10))?;
-    family.fact("the count after it", hearing.sheet.count() == 1_048_576)?;
+    family.fact("the count after it", hearing.sheet.count() == MOST_SYMBOLS)?;
     let weight = hearing.tally.first().map(|entry| entry.zero);
     family.fact("the first entry", weight == Some(16384))?;
     hearing.wipe()?;

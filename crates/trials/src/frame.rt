@@ -14,7 +14,8 @@ pub(crate) struct Sizes {
 }
 
 impl Sizes {
-    // The block has eight bits for each octet of the report, those of the check, and four of the tail.
+    // The block has eight bits for each octet of the report, those of the check, and four of the
+    // tail.
     pub(crate) fn of(octets: usize, check: usize) -> Sizes {
         let bits = octets
             .saturating_mul(8)
@@ -50,6 +51,9 @@ impl fmt::Display for Sizes {
         write!(f, "{octets} octets, check of {check}")
     }
 }
+
+// A sheet takes at most so many symbols between two wipes.
+pub(crate) const MOST_SYMBOLS: usize = 1_048_576;
 
 pub(crate) const CHECKS: [usize; 4] = [4, 12, 20, 28];
 

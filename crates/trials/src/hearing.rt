@@ -1,4 +1,6 @@
-// A sheet with its tally and what a decode is lent, and beside it the second decoder's book of the same takes.
+// A sheet with its tally and what a decode is lent, and beside it the second decoder's book of the
+// same takes.
+use crate::buffers::Buffers;
 use crate::family::Findings;
 use crate::frame::Frame;
 use crate::second::all::{Least, least_of_all};
@@ -8,7 +10,7 @@ use crate::second::division::divides;
 use crate::second::nearest::{StepSums, by_steps, find_nearest, weight_of};
 use crate::tried::Tried;
 use search::Entry;
-use sheet::{Sheet, TakeRefusal};
+use sheet::{Sheet, TakeRefusal, Taken, Verdict};
 
 #[derive(Drop)]
 pub(crate) struct Hearing<'a, R: Tried> {
@@ -17,8 +19,7 @@ pub(crate) struct Hearing<'a, R: Tried> {
     pub(crate) tally: Vec<Entry<R::Value>>,
     pub(crate) book: Book,
     pub(crate) target: Vec<u8>,
-    survivors: Vec<u16>,
-    paths: Vec<Option<R::Value>>,
+    buffers: Buffers<R::Value>,
 }
 
 // What a decode answered, and the octets that it named.
@@ -45,20 +46,19 @@ impl<'a, R: Tried> Hearing<'a, R> {
             tally,
             book: Book::new(heap, R::kind(), sizes.places()),
             target: vec![in heap; 0u8; sizes.block]?,
-            survivors: vec![in heap; 0u16; sizes.block.saturating_mul(8)]?,
-            paths: vec![in heap; None; 32]?,
+            buffers: Buffers::new(heap, sizes)?,
         })
     }
 
     // Takes symbols on the sheet and in the book, and answers whether both have the same count.
     pub(crate) fn take(&mut self, start: usize, octets: &[u8]) -> anyhow::Result<bool> {
-        let count = self.sheet.take(self.tally.as_mut_slice(), start, octets)?;
+        let taken = self.sheet.take(self.tally.as_mut_slice(), start, octets)?;
         self.book.note(start, octets)?;
-        Ok(count == self.book.count)
+        Ok(taken.total == self.book.count)
     }
 
     // A take that may be refused; the book does not note it.
-    pub(crate) fn offer(&mut self, start: usize, octets: &[u8]) -> Result<usize, TakeRefusal> {
+    pub(crate) fn offer(&mut self, start: usize, octets: &[u8]) -> Result<Taken, TakeRefusal> {
         self.sheet.take(self.tally.as_mut_slice(), start, octets)
     }
 
@@ -69,15 +69,14 @@ impl<'a, R: Tried> Hearing<'a, R> {
     }
 
     pub(crate) fn decode(&mut self) -> anyhow::Result<Named> {
-        let found = self.sheet.decode(
+        let decoded = self.sheet.decode(
             self.tally.as_slice(),
             self.target.as_mut_slice(),
-            self.survivors.as_mut_slice(),
-            self.paths.as_mut_slice(),
+            &mut self.buffers.lend(),
         )?;
         Ok(Named {
-            weight: R::number(found.weight),
-            check_fits: found.check_fits,
+            weight: R::number(decoded.weight),
+            check_fits: decoded.verdict == Verdict::Fits,
             octets: self.target.clone()?,
         })
     }
@@ -128,7 +127,8 @@ impl<'a, R: Tried> Hearing<'a, R> {
         Ok(())
     }
 
-    // Compares the least weight with that of the second search, whose own message has to weigh what it says.
+    // Compares the least weight with that of the second search, whose own message has to weigh what
+    // it says.
     fn expect_least(
         &self,
         findings: &mut Findings,
@@ -157,7 +157,8 @@ impl<'a, R: Tried> Hearing<'a, R> {
         Ok(())
     }
 
-    // Decodes, and compares the tally and all that is answered with the second decoder. Answers the weight.
+    // Decodes, and compares the tally and all that is answered with the second decoder. Answers the
+    // weight.
     pub(crate) fn expect_decode(&mut self, findings: &mut Findings) -> anyhow::Result<u64> {
         let sums = self.book.sums()?;
         findings.expect("the tally", self.tally_is(sums.as_slice()));

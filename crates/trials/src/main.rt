@@ -1,7 +1,9 @@
-// Tries calls of the crates against a second coder and decoder that were written another way. docs/trials.md says which.
+// Tries calls of the crates against a second coder and decoder that were written another way.
+// docs/trials.md says which.
 #![tactic(auto)]
 
 mod blocks;
+mod buffers;
 mod channel;
 mod family;
 mod figures;

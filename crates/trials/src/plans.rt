@@ -29,7 +29,8 @@ impl fmt::Display for Question {
     }
 }
 
-// The octets that output 1 and `k` columns fill: the whole ones, and one more for bits that are left.
+// The octets that output 1 and `k` columns fill: the whole ones, and one more for bits that are
+// left.
 pub(crate) fn payload(sizes: Sizes, k: usize) -> usize {
     let bits = sizes.block.saturating_mul(k.saturating_add(8));
     (bits / 8).saturating_add(usize::from(bits % 8 > 0))

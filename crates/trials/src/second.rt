@@ -1,4 +1,5 @@
-// A second coder and decoder, written another way than the crates that are tried: nothing here rests on them.
+// A second coder and decoder, written another way than the crates that are tried: nothing here
+// rests on them.
 pub(crate) mod all;
 pub(crate) mod book;
 pub(crate) mod coder;

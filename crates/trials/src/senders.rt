@@ -29,13 +29,13 @@ impl Ending {
 
 // What a copy is asked for, and what it is lent.
 #[derive(Clone, Copy)]
-pub(crate) struct Asked {
+pub(crate) struct Request {
     pub(crate) count: usize,
     pub(crate) buffer: usize,
     pub(crate) target: usize,
 }
 
-impl Asked {
+impl Request {
     // The number that this copy is refused with, where a round has so many octets.
     pub(crate) fn refused(self, round: usize) -> Option<u8> {
         if self.count == 0 || self.count > round {
@@ -87,22 +87,23 @@ impl Model {
         Ok(octets)
     }
 
-    // Asks a passage for a copy, with the sender at an octet, and answers the octets that are due, if any.
+    // Asks a passage for a copy, with the sender at an octet, and answers the octets that are due,
+    // if any.
     pub(crate) fn copy(
         &self,
         passage: &mut Passage<'_>,
         at: usize,
-        asked: Asked,
+        request: Request,
         findings: &mut Findings,
     ) -> anyhow::Result<Vec<u8>> {
         let lent = self.buffer.as_slice();
-        let lent = lent.get(..asked.buffer).unwrap_or(lent);
-        let mut target = marked(self.heap, asked.target)?;
-        let found = passage.copy(lent, target.as_mut_slice(), asked.count);
+        let lent = lent.get(..request.buffer).unwrap_or(lent);
+        let mut target = marked(self.heap, request.target)?;
+        let found = passage.copy(lent, target.as_mut_slice(), request.count);
         let refused = found.err().map(|refusal| refusal.number());
-        findings.expect("the refusal", refused == asked.refused(self.round));
+        findings.expect("the refusal", refused == request.refused(self.round));
         let due = match refused {
-            None => self.next(at, asked.count)?,
+            None => self.next(at, request.count)?,
             Some(_) => Vec::new(self.heap),
         };
         findings.expect("the octets", begins_with(target.as_slice(), due.as_slice()));
@@ -124,7 +125,7 @@ impl Model {
     fn pass(
         &mut self,
         sender: &mut Sender,
-        copies: &[Asked],
+        copies: &[Request],
         ending: Ending,
         findings: &mut Findings,
     ) -> anyhow::Result<()> {
@@ -132,8 +133,8 @@ impl Model {
         let mut at = self.standing;
         let size = sender.size();
         let mut passage = Passage::begin(size, &mut sender.cursor);
-        for asked in copies {
-            let due = self.copy(&mut passage, at, *asked, findings)?;
+        for request in copies {
+            let due = self.copy(&mut passage, at, *request, findings)?;
             at = self.behind(at, due.len());
             octets.extend_from_slice(due.as_slice())?;
         }
@@ -156,7 +157,7 @@ impl Model {
 }
 
 // A copy of chance: most are performed, and some are refused.
-fn draw(random: &mut Random, round: usize) -> Asked {
+fn draw(random: &mut Random, round: usize) -> Request {
     let count = match random.below(12) {
         0 => 0,
         1 => round,
@@ -175,7 +176,7 @@ fn draw(random: &mut Random, round: usize) -> Asked {
         1 => room.saturating_add(5),
         _ => room,
     };
-    Asked {
+    Request {
         count,
         buffer,
         target,

@@ -1,17 +1,19 @@
-// Symbols: all 256 octets by each reading, whether each is a symbol, and what it weighs against each bit.
+// Symbols: all 256 octets by each reading, whether each is a symbol, and what it weighs against
+// each bit.
 use crate::family::{Family, Findings, Outcome};
 use crate::frame::{Frame, ORDER_R};
 use crate::hearing::Hearing;
 use crate::second::book::Sums;
 use crate::second::readings::Kind;
 use crate::tried::Tried;
-use sheet::TakeRefusal;
+use sheet::{TakeRefusal, Taken};
 use std::fmt;
 use weighing::hard::Hard;
 use weighing::soft::Soft;
 use weighing::worst::Worst;
 
-// The index of the octet in its take, and so its place. The other seven of the take are symbols by each reading.
+// The index of the octet in its take, and so its place. The other seven of the take are symbols by
+// each reading.
 const AT: usize = 3;
 
 // An octet that a reading of this kind is handed.
@@ -36,7 +38,8 @@ fn sums_at<R: Tried>(hearing: &Hearing<'_, R>) -> Option<Sums> {
     })
 }
 
-// A take that has this octet is performed just where it is a symbol, and adds what the symbol weighs.
+// A take that has this octet is performed just where it is a symbol, and adds what the symbol
+// weighs.
 fn try_octet<R: Tried>(frame: &Frame, octet: u8) -> anyhow::Result<Findings> {
     let kind = R::kind();
     let mut hearing = Hearing::<R>::open(frame)?;
@@ -49,7 +52,7 @@ fn try_octet<R: Tried>(frame: &Frame, octet: u8) -> anyhow::Result<Findings> {
     };
     let mut findings = Findings::none();
     if kind.is_symbol(octet) {
-        findings.expect("the answer", found == Ok(8));
+        findings.expect("the answer", found == Ok(Taken { total: 8 }));
         findings.expect("the weights", sums_at::<R>(&hearing) == Some(sums));
     } else {
         findings.expect("the index", found == Err(TakeRefusal::Symbol(AT)));

@@ -12,7 +12,8 @@ use code::encode_report;
 use std::alloc::Global;
 use std::fmt;
 
-// A part of the buffer: its first octet and how many octets it has, over the buffer's end if need be.
+// A part of the buffer: its first octet and how many octets it has, over the buffer's end if need
+// be.
 #[derive(Clone, Copy)]
 struct Part {
     start: usize,
@@ -190,8 +191,8 @@ impl Trial {
         Ok(())
     }
 
-    // Sends a report of chance, and takes what is heard of it, part after part. From one part to the next the weight does not
-    // fall.
+    // Sends a report of chance, and takes what is heard of it, part after part. From one part to
+    // the next the weight does not fall.
     pub(crate) fn hear<'a, R: Tried>(
         self,
         frame: &'a Frame,

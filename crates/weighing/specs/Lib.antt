@@ -1,3 +1,4 @@
+pub mod Alphabets
 pub mod Hard
 pub mod Levels
 pub mod Scales

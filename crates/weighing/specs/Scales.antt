@@ -1,12 +1,13 @@
--- A weighing says how weights add and compare. Here is what weights mean, the laws that their meanings keep, and the two
--- scales of this crate. Assumes nothing.
+-- A weighing says how weights add and compare. Here is what weights mean, the laws that their
+-- meanings keep, and the two scales of this crate. Assumes nothing.
 use Rattle.std.specs.Prelude.{◌≡◌, ℕ, ◌+◌, ◌≤◌, min, max, ◌⊎◌}
 use Rattle.std.proofs.Common.{inl, inr, arith}
 use mathlib.Core.HLevel.{is_prop→PathP}
 use Rattle.std.proofs.Math.Bridge.{le_prop}
 use Rattle.std.proofs.Math.Decide.{dec_le}
 
--- What every weighing keeps: an order of all meanings, and an addition that respects it and never makes lighter.
+-- What every weighing keeps: an order of all meanings, and an addition that respects it and never
+-- makes lighter.
 pub record Laws {M : Type 0} (zero : M) (plus : M → M → M) (atmost : M → M → Type 0) : Type 0 where
   pub total : (a b : M) → atmost a b ⊎ atmost b a
   pub transitive : (a b c : M) → atmost a b → atmost b c → atmost a c
@@ -52,7 +53,8 @@ capped cap n = record { value = min n cap; within = omega arith }
 abbrev pub heaviest : ℕ
 heaviest = 4294967295
 
-pub counted_laws : Laws (capped heaviest 0) (λ a b. capped heaviest (a.value + b.value)) (λ a b. a.value ≤ b.value)
+pub counted_laws : Laws (capped heaviest 0) (λ a b. capped heaviest (a.value + b.value))
+    (λ a b. a.value ≤ b.value)
 counted_laws = record {
   total = λ a b. either_way a.value b.value;
   transitive = λ a b c p q. omega arith;
@@ -93,4 +95,11 @@ largest_laws = record {
 
 -- Weights of which the largest counts: the sum of two is the larger.
 abbrev pub largest : Scale ℕ
-largest = record { Meaning = ℕ; mean = λ n. n; zero = 0; plus = max; atmost = ◌≤◌; laws = largest_laws }
+largest = record {
+  Meaning = ℕ;
+  mean = λ n. n;
+  zero = 0;
+  plus = max;
+  atmost = ◌≤◌;
+  laws = largest_laws;
+}

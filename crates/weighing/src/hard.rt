@@ -1,20 +1,21 @@
-// The hard reading: each symbol is a bit or missing, and weights count the bits that are contradicted.
+// The hard reading: each symbol is a bit or missing, and weights count the bits that are
+// contradicted.
 ghost use Rattle.std.specs.Prelude.{◌≡◌, ◌+◌, min, Decides, nat_le};
-ghost use Rattle.weighing.specs.Hard.{hard_reads, hard_weight};
+ghost use Rattle.weighing.specs.Hard.{hard_alphabet, hard_reads, hard_weight};
 ghost use Rattle.weighing.specs.Scales.{counted};
 
 use crate::{Reading, Weighing};
 
 pub struct Hard;
 
-// A bit that came, or none. No `Option`, since a missing bit is a symbol, and `read` answers `None` for what is none.
+// A bit that came, or none. No `Option`, since a missing bit is a symbol, and `read` answers `None`
+// for what is none.
 #[derive(Clone, Copy, Debug, PartialEq)]
 pub enum HardSymbol {
     Bit(bool),
     Missing,
 }
 
-// A rule of the project: each reading is an implementation of its own, with contracts on every function.
 impl Weighing for Hard {
     type Value = u32;
 
@@ -45,9 +46,7 @@ impl Weighing for Hard {
 impl Reading for Hard {
     type Symbol = HardSymbol;
 
-    ghost reads = { hard_reads };
-
-    ghost against = { hard_weight };
+    ghost alphabet = { hard_alphabet };
 
     fn read(octet: u8) -> Option<HardSymbol>
         ensures { result ≡ hard_reads octet }
@@ -61,7 +60,7 @@ impl Reading for Hard {
     }
 
     fn cost(symbol: HardSymbol, bit: bool) -> u32
-        ensures means { counted.mean result ≡ counted.mean (hard_weight symbol bit) }
+        ensures means { counted.mean result ≡ counted.mean (hard_alphabet.against symbol bit) }
         ensures value { result ≡ hard_weight symbol bit }
     {
         match symbol {

@@ -1,7 +1,8 @@
 // Weighings say how weights add and compare. Readings weigh received symbols against bits.
 #![tactic(auto)]
 
-ghost use Rattle.std.specs.Prelude.{◌≡◌, ℕ, Bool, Decides, Option};
+ghost use Rattle.std.specs.Prelude.{◌≡◌, Decides};
+ghost use Rattle.weighing.specs.Alphabets.{Alphabet};
 ghost use Rattle.weighing.specs.Scales.{Scale};
 
 pub mod hard;
@@ -25,7 +26,8 @@ pub trait Weighing {
     fn sum(a: Self::Value, b: Self::Value) -> Self::Value
         ensures { scale.mean result ≡ scale.plus (scale.mean a) (scale.mean b) };
 
-    // A call of the weighing's and no `Ord` of the values: weights that mean the same count as equal.
+    // A call of the weighing's and no `Ord` of the values: weights that mean the same count as
+    // equal.
     fn at_most(a: Self::Value, b: Self::Value) -> bool
         ensures { Decides result (scale.atmost (scale.mean a) (scale.mean b)) };
 }
@@ -34,15 +36,13 @@ pub trait Weighing {
 pub trait Reading: Weighing {
     type Symbol: Copy + Drop;
 
-    // The symbol that an octet reads as, if it is one.
-    ghost reads: { ℕ → Option Self.Symbol };
-
-    // The weight of a symbol against a bit.
-    ghost against: { Self.Symbol → Bool → Self.Value };
+    // What octets read as, and what a symbol weighs against a bit.
+    ghost alphabet: { Alphabet Self.Symbol Self.Value };
 
     fn read(octet: u8) -> Option<Self::Symbol>
-        ensures { result ≡ reads octet };
+        ensures { result ≡ alphabet.reads octet };
 
     fn cost(symbol: Self::Symbol, bit: bool) -> Self::Value
-        ensures { Self.Weighing.scale.mean result ≡ Self.Weighing.scale.mean (against symbol bit) };
+        ensures { let mean = Self.Weighing.scale.mean in
+            mean result ≡ mean (alphabet.against symbol bit) };
 }

@@ -1,6 +1,7 @@
-// The soft reading: each symbol is a level, and weights add up the sizes of those that are contradicted.
+// The soft reading: each symbol is a level, and weights add up the sizes of those that are
+// contradicted.
 ghost use Rattle.std.specs.Prelude.{◌≡◌, ◌+◌, min, Decides, nat_le};
-ghost use Rattle.weighing.specs.Levels.{level_reads, level_weight};
+ghost use Rattle.weighing.specs.Levels.{level_alphabet, level_reads, level_weight};
 ghost use Rattle.weighing.specs.Scales.{counted};
 
 use crate::level::Level;
@@ -8,7 +9,8 @@ use crate::{Reading, Weighing};
 
 pub struct Soft;
 
-// A rule of the project: each reading is an implementation of its own, with contracts on every function.
+// It adds as the hard reading does, and is written out all the same: each reading stands whole in a
+// file of its own, with a contract on every call.
 impl Weighing for Soft {
     type Value = u32;
 
@@ -36,13 +38,11 @@ impl Weighing for Soft {
     }
 }
 
-// A rule of the project, as above; what the readings of levels share is `Level`'s.
+// What the readings of levels share is `Level`'s.
 impl Reading for Soft {
     type Symbol = Level;
 
-    ghost reads = { level_reads };
-
-    ghost against = { level_weight };
+    ghost alphabet = { level_alphabet };
 
     fn read(octet: u8) -> Option<Level>
         ensures { result ≡ level_reads octet }
@@ -51,7 +51,7 @@ impl Reading for Soft {
     }
 
     fn cost(symbol: Level, bit: bool) -> u32
-        ensures means { counted.mean result ≡ counted.mean (level_weight symbol bit) }
+        ensures means { counted.mean result ≡ counted.mean (level_alphabet.against symbol bit) }
         ensures value { result ≡ level_weight symbol bit }
     {
         u32::from(symbol.weight(bit))

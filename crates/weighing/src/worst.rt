@@ -1,6 +1,6 @@
 // The worst reading: each symbol is a level, and a sum is its heaviest part.
 ghost use Rattle.std.specs.Prelude.{◌≡◌, max, Decides, nat_le};
-ghost use Rattle.weighing.specs.Levels.{level_reads, level_weight};
+ghost use Rattle.weighing.specs.Levels.{level_alphabet, level_reads, level_weight};
 ghost use Rattle.weighing.specs.Scales.{largest};
 
 use crate::level::Level;
@@ -8,7 +8,6 @@ use crate::{Reading, Weighing};
 
 pub struct Worst;
 
-// A rule of the project: each reading is an implementation of its own, with contracts on every function.
 impl Weighing for Worst {
     type Value = u8;
 
@@ -36,13 +35,11 @@ impl Weighing for Worst {
     }
 }
 
-// A rule of the project, as above; what the readings of levels share is `Level`'s.
+// What the readings of levels share is `Level`'s.
 impl Reading for Worst {
     type Symbol = Level;
 
-    ghost reads = { level_reads };
-
-    ghost against = { level_weight };
+    ghost alphabet = { level_alphabet };
 
     fn read(octet: u8) -> Option<Level>
         ensures { result ≡ level_reads octet }
@@ -51,7 +48,7 @@ impl Reading for Worst {
     }
 
     fn cost(symbol: Level, bit: bool) -> u8
-        ensures means { largest.mean result ≡ largest.mean (level_weight symbol bit) }
+        ensures means { largest.mean result ≡ largest.mean (level_alphabet.against symbol bit) }
         ensures value { result ≡ level_weight symbol bit }
     {
         symbol.weight(bit)

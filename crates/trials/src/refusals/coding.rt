@@ -1,4 +1,5 @@
-// The check field, encoding and direct reading: what they refuse, what they answer, and what they leave.
+// The check field, encoding and direct reading: what they refuse, what they answer, and what they
+// leave.
 use super::{CHECK_EDGES, Called, Check, first, wrong_check, wrong_octets};
 use crate::family::{Family, Findings, Outcome};
 use crate::frame::{Frame, ORDER_R, Sizes};
@@ -13,7 +14,8 @@ use std::alloc::Global;
 // Lengths of reports, of which the first and the last are none.
 const OCTETS: [usize; 5] = [0, 1, 2, 512, 513];
 
-// How far a buffer's length is from the least that serves: one less, just that, and one and nine more.
+// How far a buffer's length is from the least that serves: one less, just that, and one and nine
+// more.
 const LENGTHS: [usize; 4] = [0, 1, 2, 10];
 
 fn some_report(heap: Global, random: &mut Random, octets: usize) -> anyhow::Result<Vec<u8>> {

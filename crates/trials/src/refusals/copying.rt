@@ -1,9 +1,10 @@
-// A passage's copy: what it refuses at each edge of the count and of both buffers, and what it leaves.
+// A passage's copy: what it refuses at each edge of the count and of both buffers, and what it
+// leaves.
 use super::Called;
 use crate::family::{Family, Findings, Outcome};
 use crate::frame::Sizes;
 use crate::random::Random;
-use crate::senders::{Asked, Model};
+use crate::senders::{Model, Request};
 use sender::{Passage, Sender};
 
 // A copy by a sender that stands at octet 5; the passage is then let go, and the sender is back.
@@ -11,15 +12,15 @@ fn try_copy(
     family: &mut Family<'_>,
     model: &Model,
     sender: &mut Sender,
-    asked: Asked,
+    request: Request,
 ) -> anyhow::Result<()> {
     let mut findings = Findings::none();
     let before = sender.cursor;
     let mut passage = Passage::begin(sender.size(), &mut sender.cursor);
-    let _due = model.copy(&mut passage, before, asked, &mut findings)?;
+    let _due = model.copy(&mut passage, before, request, &mut findings)?;
     passage.give_up();
     findings.expect("the cursor", sender.cursor == before);
-    let numbers = [asked.count, asked.buffer, asked.target, before];
+    let numbers = [request.count, request.buffer, request.target, before];
     family.case(
         Called {
             name: "copy",
@@ -35,18 +36,18 @@ fn try_confirmed(
     family: &mut Family<'_>,
     model: &Model,
     sender: &mut Sender,
-    asked: Asked,
+    request: Request,
 ) -> anyhow::Result<()> {
-    if asked.refused(model.round).is_none() {
+    if request.refused(model.round).is_none() {
         return Ok(());
     }
     let mut findings = Findings::none();
     let before = sender.cursor;
     let mut passage = Passage::begin(sender.size(), &mut sender.cursor);
-    let _due = model.copy(&mut passage, before, asked, &mut findings)?;
+    let _due = model.copy(&mut passage, before, request, &mut findings)?;
     passage.confirm();
     findings.expect("the cursor", sender.cursor == before);
-    let numbers = [asked.count, asked.buffer, asked.target, before];
+    let numbers = [request.count, request.buffer, request.target, before];
     family.case(
         Called {
             name: "confirmed copy",
@@ -75,13 +76,13 @@ fn try_size(family: &mut Family<'_>, rt: &HostRuntime, sizes: Sizes) -> anyhow::
         let room = count.min(round.saturating_add(1));
         for buffer in [0, round.saturating_sub(1), round, round.saturating_add(1)] {
             for target in [0, room.saturating_sub(1), room, room.saturating_add(3)] {
-                let asked = Asked {
+                let request = Request {
                     count,
                     buffer,
                     target,
                 };
-                try_copy(family, &model, &mut sender, asked)?;
-                try_confirmed(family, &model, &mut sender, asked)?;
+                try_copy(family, &model, &mut sender, request)?;
+                try_confirmed(family, &model, &mut sender, request)?;
             }
         }
     }

@@ -1,5 +1,7 @@
-// Decoding: what is refused where any of the four buffers is short, and what is left of the three that it may write.
+// Decoding: what is refused where any of the four buffers is short, and what is left of the three
+// that it may write.
 use super::{Called, Check, first};
+use crate::buffers::Buffers;
 use crate::family::{Family, Findings, Outcome};
 use crate::frame::Sizes;
 use crate::pattern::{
@@ -15,17 +17,17 @@ use weighing::worst::Worst;
 
 // The lengths of what a decode is lent.
 #[derive(Clone, Copy)]
-struct Lent {
+struct Lengths {
     tally: usize,
     target: usize,
     survivors: usize,
     paths: usize,
 }
 
-impl Lent {
+impl Lengths {
     // Just enough.
-    fn needed(sizes: Sizes) -> Lent {
-        Lent {
+    fn needed(sizes: Sizes) -> Lengths {
+        Lengths {
             tally: sizes.places(),
             target: sizes.block,
             survivors: sizes.block.saturating_mul(8),
@@ -33,7 +35,7 @@ impl Lent {
         }
     }
 
-    fn is_short_of(self, needed: Lent) -> bool {
+    fn is_short_of(self, needed: Lengths) -> bool {
         self.tally < needed.tally
             || self.target < needed.target
             || self.survivors < needed.survivors
@@ -56,19 +58,16 @@ fn try_decode<R: Tried>(
     family: &mut Family<'_>,
     heap: Global,
     sheet: &Sheet<R>,
-    needed: Lent,
-    lent: Lent,
+    needed: Lengths,
+    lent: Lengths,
 ) -> anyhow::Result<()> {
     let tally = marked_tally::<R>(heap, lent.tally)?;
     let mut target = marked(heap, lent.target)?;
-    let mut survivors = marked_words(heap, lent.survivors)?;
-    let mut paths = marked_paths::<R>(heap, lent.paths)?;
-    let found = sheet.decode(
-        tally.as_slice(),
-        target.as_mut_slice(),
-        survivors.as_mut_slice(),
-        paths.as_mut_slice(),
-    );
+    let mut buffers = Buffers {
+        survivors: marked_words(heap, lent.survivors)?,
+        paths: marked_paths::<R>(heap, lent.paths)?,
+    };
+    let decoded = sheet.decode(tally.as_slice(), target.as_mut_slice(), &mut buffers.lend());
     let due = first(&[Check {
         holds: lent.is_short_of(needed),
         number: 6,
@@ -76,11 +75,11 @@ fn try_decode<R: Tried>(
     let mut findings = Findings::none();
     findings.expect(
         "the refusal",
-        found.err().map(|refusal| refusal.number()) == due,
+        decoded.err().map(|refusal| refusal.number()) == due,
     );
     let used = match due {
         None => needed,
-        Some(_) => Lent {
+        Some(_) => Lengths {
             tally: 0,
             target: 0,
             survivors: 0,
@@ -90,11 +89,11 @@ fn try_decode<R: Tried>(
     findings.expect("the target", is_marked(target.as_slice(), used.target));
     findings.expect(
         "the survivors",
-        is_marked_words(survivors.as_slice(), used.survivors),
+        is_marked_words(buffers.survivors.as_slice(), used.survivors),
     );
     findings.expect(
         "the path weights",
-        is_marked_paths::<R>(paths.as_slice(), used.paths),
+        is_marked_paths::<R>(buffers.paths.as_slice(), used.paths),
     );
     let numbers = [lent.tally, lent.target, lent.survivors, lent.paths];
     family.case(
@@ -109,7 +108,7 @@ fn try_decode<R: Tried>(
 
 // Each length of each buffer with each of the others.
 fn try_size<R: Tried>(family: &mut Family<'_>, heap: Global, sizes: Sizes) -> anyhow::Result<()> {
-    let needed = Lent::needed(sizes);
+    let needed = Lengths::needed(sizes);
     let mut own = marked_tally::<R>(heap, needed.tally)?;
     let sheet = Sheet::<R>::open(
         sizes.octets,
@@ -118,7 +117,7 @@ fn try_size<R: Tried>(family: &mut Family<'_>, heap: Global, sizes: Sizes) -> an
         own.as_mut_slice(),
     )?;
     for turn in 0..256 {
-        let lent = Lent {
+        let lent = Lengths {
             tally: length(needed.tally, turn),
             target: length(needed.target, turn / 4),
             survivors: length(needed.survivors, turn / 16),

@@ -1,4 +1,5 @@
-// Calls that are handed numbers alone: orders, payload lengths and back, and the making of a sender.
+// Calls that are handed numbers alone: orders, payload lengths and back, and the making of a
+// sender.
 use super::{CHECK_EDGES, Called, Check, OCTETS, first, wrong_check, wrong_octets};
 use crate::family::{Family, Findings, Outcome};
 use crate::frame::{ORDER_R, Sizes, shuffled};

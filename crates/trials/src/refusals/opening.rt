@@ -96,7 +96,7 @@ fn try_wipe<R: Tried>(
     } = sizes;
     let mut own = marked_tally::<R>(heap, sizes.places())?;
     let mut sheet = Sheet::<R>::open(octets, check, Order::order_r(), own.as_mut_slice())?;
-    let _count = sheet.take(own.as_mut_slice(), 0, &[1; 8])?;
+    let _taken = sheet.take(own.as_mut_slice(), 0, &[1; 8])?;
     let mut tally = marked_tally::<R>(heap, entries)?;
     let found = sheet
         .wipe(tally.as_mut_slice())

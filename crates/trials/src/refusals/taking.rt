@@ -1,12 +1,14 @@
-// Taking symbols: what is refused at each edge of tally, start, count, fullness and symbols, and what is left.
+// Taking symbols: what is refused at each edge of tally, start, count, fullness and symbols, and
+// what is left.
 use super::{Called, Check, first};
 use crate::family::{Family, Findings, Outcome};
+use crate::frame::MOST_SYMBOLS;
 use crate::pattern::marked_tally;
 use crate::second::book::{Book, Sums};
 use crate::tried::Tried;
 use code::Order;
 use search::Entry;
-use sheet::{Sheet, TakeRefusal};
+use sheet::{Sheet, TakeRefusal, Taken};
 use std::alloc::{AllocError, Global};
 use weighing::hard::Hard;
 use weighing::soft::Soft;
@@ -17,10 +19,8 @@ const PLACES: usize = 64;
 
 const ENTRIES: usize = 67;
 
-// A sheet takes at most so many symbols.
-const MOST: usize = 1_048_576;
-
-// A take that is tried: the entries that it is lent, its start, how many symbols, and which two of them are unlawful.
+// A take that is tried: the entries that it is lent, its start, how many symbols, and which two of
+// them are unlawful.
 #[derive(Clone, Copy)]
 struct Offer {
     entries: usize,
@@ -65,7 +65,7 @@ impl Offer {
                 number: 8,
             },
             Check {
-                holds: taken.saturating_add(count) > MOST,
+                holds: taken.saturating_add(count) > MOST_SYMBOLS,
                 number: 10,
             },
             Check {
@@ -76,9 +76,9 @@ impl Offer {
     }
 }
 
-// A sheet over a tally with some entries more.
+// A sheet that has taken some symbols, over a tally with some entries more.
 #[derive(Drop)]
-struct Taken<R: Tried> {
+struct Filled<R: Tried> {
     heap: Global,
     sheet: Sheet<R>,
     tally: Vec<Entry<R::Value>>,
@@ -94,18 +94,18 @@ fn sums_of<R: Tried>(heap: Global, tally: &[Entry<R::Value>]) -> Result<Vec<Sums
         .collect(heap)
 }
 
-impl<R: Tried> Taken<R> {
+impl<R: Tried> Filled<R> {
     // A sheet that has taken so many symbols: a multiple of a round, or eight less.
-    fn filled(heap: Global, symbols: usize) -> anyhow::Result<Taken<R>> {
+    fn with(heap: Global, symbols: usize) -> anyhow::Result<Filled<R>> {
         let mut tally = marked_tally::<R>(heap, ENTRIES)?;
         let mut sheet = Sheet::<R>::open(1, 4, Order::order_r(), tally.as_mut_slice())?;
         for _ in 0..symbols / PLACES {
-            let _count = sheet.take(tally.as_mut_slice(), 0, &[1; PLACES])?;
+            let _taken = sheet.take(tally.as_mut_slice(), 0, &[1; PLACES])?;
         }
         if symbols % PLACES > 0 {
-            let _count = sheet.take(tally.as_mut_slice(), 0, &[1; PLACES - 8])?;
+            let _taken = sheet.take(tally.as_mut_slice(), 0, &[1; PLACES - 8])?;
         }
-        Ok(Taken { heap, sheet, tally })
+        Ok(Filled { heap, sheet, tally })
     }
 
     // What the tally holds once a take has been added to what it held.
@@ -121,7 +121,7 @@ impl<R: Tried> Taken<R> {
         Ok(sums)
     }
 
-    fn offer(&mut self, offer: Offer, symbols: &[u8]) -> Result<usize, TakeRefusal> {
+    fn offer(&mut self, offer: Offer, symbols: &[u8]) -> Result<Taken, TakeRefusal> {
         let tally = self.tally.as_mut_slice();
         let entries = offer.entries.min(tally.len());
         self.sheet.take(&mut tally[..entries], offer.start, symbols)
@@ -135,10 +135,10 @@ impl<R: Tried> Taken<R> {
         let found = self.offer(offer, symbols.as_slice());
         let after = sums_of::<R>(self.heap, self.tally.as_slice())?;
         match found {
-            Ok(count) => {
+            Ok(Taken { total }) => {
                 findings.expect("the refusal", offer.due(taken).is_none());
-                findings.expect("the answer", count == taken.saturating_add(offer.count));
-                findings.expect("the count", self.sheet.count() == count);
+                findings.expect("the answer", total == taken.saturating_add(offer.count));
+                findings.expect("the count", self.sheet.count() == total);
                 let due = self.after(before.as_slice(), offer.start, symbols.as_slice())?;
                 findings.expect("the tally", after.as_slice() == due.as_slice());
                 Ok(true)
@@ -162,7 +162,7 @@ impl<R: Tried> Taken<R> {
 // Takes that differ in their symbols alone. The sheet is made anew after each that is performed.
 fn try_symbols<R: Tried>(
     family: &mut Family<'_>,
-    sheet: &mut Taken<R>,
+    sheet: &mut Filled<R>,
     entries: usize,
     start: usize,
     count: usize,
@@ -183,7 +183,7 @@ fn try_symbols<R: Tried>(
         };
         let mut findings = Findings::none();
         if sheet.try_offer(offer, &mut findings)? {
-            *sheet = Taken::<R>::filled(sheet.heap, taken)?;
+            *sheet = Filled::<R>::with(sheet.heap, taken)?;
         }
         let numbers = [taken, entries, start, count];
         family.case(
@@ -200,7 +200,7 @@ fn try_symbols<R: Tried>(
 // Takes of one count, from each start.
 fn try_count<R: Tried>(
     family: &mut Family<'_>,
-    sheet: &mut Taken<R>,
+    sheet: &mut Filled<R>,
     entries: usize,
     count: usize,
 ) -> anyhow::Result<()> {
@@ -210,14 +210,15 @@ fn try_count<R: Tried>(
     Ok(())
 }
 
-// All takes that are tried on a sheet that has taken so many symbols, over tallies of these lengths.
+// All takes that are tried on a sheet that has taken so many symbols, over tallies of these
+// lengths.
 fn try_takes<R: Tried>(
     family: &mut Family<'_>,
     heap: Global,
     taken: usize,
     tallies: &[usize],
 ) -> anyhow::Result<()> {
-    let mut sheet = Taken::<R>::filled(heap, taken)?;
+    let mut sheet = Filled::<R>::with(heap, taken)?;
     for entries in tallies {
         for count in [0, 4, 7, 8, 9, 56, 63, 64, 65, 72] {
             try_count::<R>(family, &mut sheet, *entries, count)?;
@@ -237,7 +238,7 @@ pub(super) fn run(rt: &HostRuntime) -> anyhow::Result<Outcome> {
     try_reading::<Hard>(&mut family, heap)?;
     try_reading::<Soft>(&mut family, heap)?;
     try_reading::<Worst>(&mut family, heap)?;
-    for taken in [MOST - 64, MOST - 8, MOST] {
+    for taken in [MOST_SYMBOLS - 64, MOST_SYMBOLS - 8, MOST_SYMBOLS] {
         try_takes::<Hard>(&mut family, heap, taken, &[63, 67])?;
     }
     Ok(family.end()?)

@@ -3,7 +3,8 @@ use crate::second::nearest::{StepSums, weigh};
 use crate::second::readings::Kind;
 use crate::second::register::Cells;
 
-// The least weight of all messages, how many messages have it, and the first of them as a number, bit 0 first.
+// The least weight of all messages, how many messages have it, and the first of them as a number,
+// bit 0 first.
 #[derive(Clone, Copy)]
 pub(crate) struct Least {
     pub(crate) weight: u64,

@@ -1,4 +1,5 @@
-// The book of a sheet: all takes as they were handed. What a place weighs is reckoned from them when it is asked.
+// The book of a sheet: all takes as they were handed. What a place weighs is reckoned from them
+// when it is asked.
 use crate::second::readings::Kind;
 use std::alloc::{AllocError, Global};
 
@@ -10,7 +11,8 @@ struct Take {
 }
 
 impl Take {
-    // The symbol that this take has for a place, if any: a round has so many places, and the take may run over its end.
+    // The symbol that this take has for a place, if any: a round has so many places, and the take
+    // may run over its end.
     fn at(&self, round: usize, place: usize) -> Option<u8> {
         let behind = if place >= self.first {
             place

@@ -44,7 +44,8 @@ pub(crate) fn message_of(
     Ok(bits)
 }
 
-// A coded message: what went into the register, the tail with it, and the four outputs of each step.
+// A coded message: what went into the register, the tail with it, and the four outputs of each
+// step.
 #[derive(Drop)]
 pub(crate) struct Coded {
     pub(crate) inputs: Vec<bool>,

@@ -30,14 +30,16 @@ fn divide(bits: &mut [bool], check: usize) {
     }
 }
 
-// The last `check` bits of what is left when the polynomial has been taken out of the bits as often as it goes.
+// The last `check` bits of what is left when the polynomial has been taken out of the bits as often
+// as it goes.
 fn remainder(heap: Global, mut bits: Vec<bool>, check: usize) -> Result<Vec<bool>, AllocError> {
     divide(bits.as_mut_slice(), check);
     let quotient = bits.len().saturating_sub(check);
     bits.iter().copied().skip(quotient).collect(heap)
 }
 
-// The check of a report's bits: they are followed by as many zeros as the check has bits, and divided.
+// The check of a report's bits: they are followed by as many zeros as the check has bits, and
+// divided.
 pub(crate) fn check_bits(
     heap: Global,
     report: &[bool],

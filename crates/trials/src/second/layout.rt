@@ -20,7 +20,8 @@ fn list_column(sources: &mut Vec<Source>, steps: &[usize], column: u8) -> Result
     Ok(())
 }
 
-// All places of a block of so many octets: output 1 of each step, and then the columns in their order.
+// All places of a block of so many octets: output 1 of each step, and then the columns in their
+// order.
 pub(crate) fn sources(
     heap: Global,
     block: usize,

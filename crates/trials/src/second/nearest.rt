@@ -1,4 +1,5 @@
-// The nearest message by a list of candidates: each step makes more of them, and of those with equal cells the lightest is kept.
+// The nearest message by a list of candidates: each step makes more of them, and of those with
+// equal cells the lightest is kept.
 use crate::second::book::Sums;
 use crate::second::layout::Source;
 use crate::second::readings::Kind;
@@ -153,8 +154,8 @@ pub(crate) struct Nearest {
     pub(crate) bits: Vec<bool>,
 }
 
-// A nearest message, with its tail. The last four steps are the tail's; at their end all cells are clear, and one candidate
-// is left.
+// A nearest message, with its tail. The last four steps are the tail's; at their end all cells are
+// clear, and one candidate is left.
 pub(crate) fn find_nearest(
     heap: Global,
     kind: Kind,

@@ -20,5 +20,5 @@ returns c =
     let count : block_octets c.new.result.size.octets c.new.result.size.check ≡ n = (λ i. block_octets (made.size i).octets (made.size i).check) ∙ sym c.block_octets-n.ensures in
     let are : AreRows steps n rows = subst (λ s. AreRows s n rows) same (subst (λ k. AreRows told k rows) count c.code.ensures) in
     let long : n ≤ length rows = search (rules, arith) in
-    filled_right order n steps _ (rows_before steps rows _ n long are) c.fill.new.buffer (omega arith) (omega arith) c.fill.ensures
+    filled_right _ steps (rows_before steps rows _ n long are) c.fill.new.buffer (omega arith) (omega arith) c.fill.ensures
     ∙ ap (λ k. buffer_of order k steps) c.block_octets-n.ensures

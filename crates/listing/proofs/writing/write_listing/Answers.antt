@@ -1,5 +1,5 @@
 use Rattle.std.proofs.Common.{map}
-use Rattle.listing.specs.Lines.{tells}
+use Rattle.listing.specs.Lines.{content}
 use Rattle.listing.proofs.Written.{line_written, nothing_appended}
 use Rattle.listing.proofs.writing.write_listing.Goals as goal
 
@@ -14,4 +14,4 @@ pub returns-in-None : goal.returns-in-None
 returns-in-None g c =
     let yields = rw c.into_iter-line-iterator.ensures.into_iter_gives at c.loop-line.yielded_by in
     let all = c.in-Lines.ensures.lists.1 c.loop-line.yielded c.next.new.self (c.loop-line.line-iterator, yields, c.in-None.ensures.steps) in
-    (c.in-Lines.ensures.lists.0, (all.0, map tells c.loop-line.yielded, all.1, c.loop-line.invariant))
+    (c.in-Lines.ensures.lists.0, (all.0, map content c.loop-line.yielded, all.1, c.loop-line.invariant))

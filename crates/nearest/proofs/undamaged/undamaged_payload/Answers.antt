@@ -7,7 +7,7 @@ use Rattle.nearest.proofs.Taken.{heard_first}
 use Rattle.nearest.proofs.undamaged.undamaged_payload.Goals as goal
 
 pub returns-in_err-octets-clause-theorem : goal.returns-in_err-octets-clause-theorem
-returns-in_err-octets-clause-theorem c = decodes_what_was_sent _ _
+returns-in_err-octets-clause-theorem c = decodes_what_was_sent _
 
 pub returns : goal.returns
 returns c =
@@ -20,13 +20,14 @@ returns c =
     let encoded = rw (c.order_r.ensures, c.unwrap.ensures) at c.encode_report.ensures in
     let calls = rw heard_so at (rw c.unwrap-2.ensures at c.nearest_message.ensures.run).1 in
     record {
-      theorem = decodes_what_was_sent _ _;
+      theorem = decodes_what_was_sent _;
       run = (
         planned.0,
         record {
           encoding = encoded;
+          scratch' = _;
           calls = calls;
-          back = gives_back c.args.report c.args.k (omega (arith, c.ranges.report.fits)) rate c.args.buffer.now buffer encoded c.unwrap-2.result (search rules) (search rules) (search rules) calls;
+          back = gives_back c.args.report c.args.k (omega (arith, c.ranges.report.fits)) rate c.args.buffer.now buffer encoded _ _ c.unwrap-2.result (search rules, search rules, search rules) calls;
         },
       );
     }

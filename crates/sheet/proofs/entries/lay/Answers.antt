@@ -7,6 +7,6 @@ pub loop-i-preserved : goal.loop-i-preserved
 loop-i-preserved g c =
     let places = c.loop-i.places in
     let place = (c.args.first + c.loop-i.i) % length places in
-    laying_more g.R.Reading.reads g.R.Weighing.scale g.R.Reading.against c.args.first c.args.octets.now c.args.places.now c.loop-i.i place places
+    laying_more g.R.Reading.alphabet g.R.Weighing.scale c.args.first c.args.octets.now c.args.places.now c.loop-i.i place places
     c.lay_octet.new.entry c.index-places-place.result c.loop-i-test.true c.loop-i.invariant (mod_below _ _ (omega (arith, c.loop-i.invariant.long)))
     (ap (λ n. (c.args.first + c.loop-i.i) % n) c.loop-i.invariant.long) (search rules)

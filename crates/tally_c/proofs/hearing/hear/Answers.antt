@@ -1,4 +1,7 @@
-use Rattle.std.proofs.Common.{rules, ◌≡◌, ℕ, List, replicate, Ok}
+use Rattle.std.proofs.Common.{rules, ◌≡◌, ℕ, List, Ok, subst}
+use Rattle.code.specs.Shapes.{Shape}
+use Rattle.search.specs.Scratch.{contents}
+use Rattle.sheet.specs.Calls.{Opens}
 use Rattle.tally_c.proofs.Heard.{heard}
 use Rattle.tally_c.proofs.hearing.hear.Goals as goal
 
@@ -8,9 +11,9 @@ returns g c =
     let opened : c.open.result ≡ Ok c.in_ok-sheet.sheet = search rules in
     let taken : c.take.result ≡ Ok c.in_ok-map_err.field-0 = search rules in
     let same = (rw ordered at c.new.ensures).1 in
-    let words : List ℕ = replicate 4128 0 in
-    heard _ _ _ _ _ c.args.columns.now c.in_ok-order.order.columns c.args.octets c.args.check c.args.start c.args.symbols.now c.args.target.now c.decode.new.target
-    words c.decode.new.survivors c.args.paths.now c.decode.new.paths c.args.tally.now c.open.new.tally c.take.new.tally c.in_ok-sheet.sheet c.take.new.self
-    c.in_ok-map_err.field-0 c.decode.result c.map_err-4.result
-    (rw same at c.in_ok-order.order.each) same c.requires.tally c.requires.paths (search rules)
-    (rw opened at c.open.ensures) (rw taken at c.take.ensures) c.decode.ensures (search rules)
+    let shape : List ℕ → Shape = λ order. record { octets = c.args.octets; check = c.args.check; order = order } in
+    let opening = subst (λ order. Opens (shape order) c.args.tally.now c.open.new.tally (Ok c.in_ok-sheet.sheet)) same (rw opened at c.open.ensures) in
+    heard _ (shape c.args.columns.now) c.args.start c.args.symbols.now opening (rw taken at c.take.ensures)
+    c.args.target.now c.decode.new.target (contents c.args.scratch.now) (contents c.decode.new.scratch)
+    c.decode.result c.map_err-4.result
+    (rw same at c.in_ok-order.order.each) c.requires c.decode.ensures.does (search rules)

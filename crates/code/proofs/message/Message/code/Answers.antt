@@ -1,7 +1,6 @@
 use Rattle.std.proofs.Common.{◌≡◌, ◌+◌, ◌/◌, ◌++◌, length, drop, set, take, subst, ◌∙◌, arith, rules}
-use Rattle.block.specs.Checks.{report_message}
 use Rattle.block.specs.Sizes.{block_octets}
-use Rattle.code.specs.Register.{coded}
+use Rattle.code.specs.Messages.{message_steps}
 use Rattle.code.specs.Rows.{AreRows}
 use Rattle.code.proofs.Rowed.{more_rows, rows_before}
 use Rattle.code.proofs.message.Message.code.Goals as goal
@@ -9,7 +8,7 @@ use Rattle.code.proofs.message.Message.code.Goals as goal
 pub returns : goal.returns
 returns c =
     let message = c.args.self.now in
-    let steps = coded (report_message message.report.now message.size.octets message.size.check) in
+    let steps = message_steps message in
     let whole = c.octets.result + c.check.result / 8 in
     let rows = c.args.rows.now in
     let noted = c.run.new.rows in

@@ -2,10 +2,11 @@ use Rattle.std.proofs.Common.{◌≡◌, ℕ, Bool, ◌+◌, ◌*◌, ◌-◌, �
 use Rattle.std.proofs.lemmas.Bool.{lt-ltb}
 use Rattle.std.proofs.lemmas.List.{get_or_past}
 use Rattle.block.specs.Bits.{bit, bit_at, bits_of}
-use Rattle.block.specs.Checks.{check_of, report_bit, term}
+use Rattle.block.specs.Checks.{check_of, term}
 use Rattle.block.proofs.Laws.{bit_in_octet, bit_alone, octet_same}
 use Rattle.block.proofs.Octets.{bit_octet}
 use Rattle.block.proofs.Ranges.{from_fn_at}
+use Rattle.code.specs.Messages.{message_bit}
 use Rattle.code.proofs.message.Message.octet.Goals as goal
 
 pub returns-then-b-octets : goal.returns-then-b-octets
@@ -26,5 +27,5 @@ returns-then-b-octets c i h =
 pub returns-else-b-octets : goal.returns-else-b-octets
 returns-else-b-octets c i h =
     let message = c.args.self.now in
-    let f : ℕ → Bool = λ i. report_bit message.report.now message.size.octets message.size.check (8 * c.args.b + i) in
+    let f : ℕ → Bool = λ i. message_bit message (8 * c.args.b + i) in
     ap (bit i) (c.octet.ensures ∙ octet_same _ _ (from_fn_at _ _ _ f false 8 c.from_fn.ensures.items (λ i r q k. search rules))) ∙ bit_octet f i h

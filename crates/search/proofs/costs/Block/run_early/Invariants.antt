@@ -1,8 +1,0 @@
-use Rattle.search.specs.Weights.{entry_sums}
-use Rattle.search.specs.Paths.{Best, meant}
-use Rattle.search.proofs.costs.Block.run_early.Given as goal
-
-abbrev pub invariant-loop-t : goal.invariant-loop-t
-invariant-loop-t g l =
-    let s = g.W.Weighing.scale in
-    Best s l.self.order.now.columns l.self.n (entry_sums s l.self.tally.now) l.survivors (meant s l.old) l.t
