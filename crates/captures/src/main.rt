@@ -3,8 +3,7 @@
 #![tactic(auto)]
 
 use anyhow::Context;
-use listing::{PLACES, write_by_letter};
-use search::Entry;
+use listing::list_input;
 use std::alloc::Global;
 use std::io::{self, BufRead, BufReader, BufWriter, Write};
 
@@ -23,8 +22,8 @@ fn octets(heap: Global, words: &str) -> anyhow::Result<Vec<u8>> {
 }
 
 // Writes the name of each capture and its listing.
-fn run(rt: &HostRuntime, sums: &mut [Entry<u32>], largest: &mut [Entry<u8>]) -> anyhow::Result<()> {
-    let mut output = BufWriter::new(rt.alloc(), io::writer(rt))?;
+fn main(rt: HostRuntime) -> anyhow::Result<()> {
+    let mut output = BufWriter::new(rt.alloc(), io::writer(&rt))?;
     for line in BufReader::new(rt.alloc(), rt.reader())?.lines(rt.alloc()) {
         let line = line?;
         let (name, words) = line
@@ -32,16 +31,8 @@ fn run(rt: &HostRuntime, sums: &mut [Entry<u32>], largest: &mut [Entry<u8>]) -> 
             .context("a line has a name, a colon and octets")?;
         let capture = octets(rt.alloc(), words)?;
         writeln!(output, "{name}:")?;
-        write_by_letter(capture.as_slice(), sums, largest, &mut output)?;
+        list_input(&mut capture.as_slice(), &mut output)?;
     }
     output.flush()?;
     Ok(())
-}
-
-fn main(rt: HostRuntime) -> anyhow::Result<()> {
-    run(
-        &rt,
-        &mut [Entry { zero: 0, one: 0 }; PLACES],
-        &mut [Entry { zero: 0, one: 0 }; PLACES],
-    )
 }

@@ -1,12 +1,22 @@
-// Worked examples of a buffer, of what is named, and of listings, each proved safe and then run.
+// Worked examples of the calls of all crates, each proved safe and then run.
 #![tactic(auto)]
 
 #[cfg(test)]
 mod hearing;
 #[cfg(test)]
+mod inputs;
+#[cfg(test)]
 mod listed;
 #[cfg(test)]
+mod readings;
+#[cfg(test)]
 mod refused;
+#[cfg(test)]
+mod runs;
+#[cfg(test)]
+mod sending;
+#[cfg(test)]
+mod worked;
 
 #[cfg(test)]
 mod tests {

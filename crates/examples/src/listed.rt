@@ -1,5 +1,5 @@
 // The first lines of small captures, by readings with tallies of several lengths.
-use listing::{ByLetter, Lettered, list};
+use listing::{Buffers, ByLetter, Lettered, list};
 use search::Entry;
 use std::alloc::Global;
 use std::fmt;
@@ -26,7 +26,7 @@ fn first_line<R: Lettered>(
 where
     R::Value: fmt::Display,
 {
-    match list::<R>(capture, tally, paths) {
+    match list::<R>(capture, Buffers { tally, paths }) {
         ByLetter::OfAnother(_) => Ok(format!(in heap; "another's")?),
         ByLetter::Lines(lines) => {
             let mut lines = lines;

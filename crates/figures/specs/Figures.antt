@@ -1,8 +1,6 @@
 -- The worked figures, and what each says of the rules: by the definitions that the contracts of the
 -- calls cite. Assumes nothing.
-use Rattle.std.specs.Prelude.{◌≡◌, ℕ, ◌-◌, Bool, true, List, [], ◌∷◌, ◌++◌, length, drop, is_none}
-use Rattle.std.specs.Prelude.{Some, None}
-use Rattle.std.specs.List.{list_all}
+use Rattle.std.specs.Prelude.{◌≡◌, ℕ, ◌-◌, true, List, [], ◌∷◌, length, drop, Some, None}
 use Rattle.block.specs.Bits.{bit, bits_of}
 use Rattle.block.specs.Checks.{check_of}
 use Rattle.block.specs.Refusals.{first_refusal}
@@ -11,38 +9,29 @@ use Rattle.code.specs.Calls.{encode_checks, encoded}
 use Rattle.code.specs.Columns.{order_r}
 use Rattle.code.specs.Register.{coded}
 use Rattle.code.specs.declared.registers.Outputs.{Outputs}
-use Rattle.sender.specs.Passages.{copy_checks, onward, passing, round_of, sent}
+use Rattle.sender.specs.Sendings.{Sending, asked_each}
 use Rattle.figures.specs.declared.Figure.{Figure}
 use Rattle.figures.specs.declared.Figure.TheVariants.{Closing, Check, Buffer, Passages, Payload}
 use Rattle.figures.specs.declared.Figure.TheVariants.{Back, BackRefused}
 
 -- the octets of a report's buffer, in order R
-abbrev buffer_r : ℕ → ℕ → List ℕ
+abbrev pub buffer_r : ℕ → ℕ → List ℕ
 buffer_r report check = encoded (report ∷ []) check order_r
 
--- where a sender of a report of one octet stands after a passage from octet `start` on that copies
--- so many octets and is confirmed
-abbrev behind : ℕ → ℕ → ℕ → ℕ
-behind check start count = (onward (passing 1 check start start) count).cursor
-
--- what such passages copy, one after another, joined in order
-abbrev pub confirmed : List ℕ → ℕ → ℕ → List ℕ → List ℕ
-confirmed buffer check start [] = []
-confirmed buffer check start (count ∷ counts) =
-    sent buffer (round_of 1 check) start count
-    ++ confirmed buffer check (behind check start count) counts
-
--- each copy is performed, into a target of its own length
-abbrev pub performed : List ℕ → ℕ → List ℕ → Bool
-performed buffer check counts =
-    let round = round_of 1 check in
-    list_all (λ n. is_none (first_refusal (copy_checks round (length buffer) n n))) counts
+-- The octets that a sending over this buffer has confirmed, for a report of one octet, where its
+-- confirmed passages were asked for so many octets each.
+pub record Confirmed (check : ℕ) (buffer counts kept : List ℕ) : Type 0 where
+  pub cursor : ℕ
+  pub asked : ℕ
+  pub sending : Sending 1 check buffer cursor kept asked
+  pub passages : asked_each sending ≡ counts
 
 -- the last three octets
-abbrev last_three : List ℕ → List ℕ
+abbrev pub last_three : List ℕ → List ℕ
 last_three octets = drop (length octets - 3) octets
 
--- what a figure says
+-- What a figure says. Of passages: there is a sending with these, and after every such sending the
+-- confirmed octets end so, whatever passages were given up or leaked between.
 abbrev pub Holds : Figure → Type 0
 Holds (Closing bit outputs) = coded (bit ∷ []) ≡ outputs
 Holds (Check report check field) =
@@ -52,8 +41,8 @@ Holds (Buffer report check buffer) =
     (first_refusal (encode_checks 1 check (length buffer)) ≡ None)
     × (buffer_r report check ≡ buffer)
 Holds (Passages report check counts last) =
-    (performed (buffer_r report check) check counts ≡ true)
-    × (last_three (confirmed (buffer_r report check) check 0 counts) ≡ last)
+    let Kept = Confirmed check (buffer_r report check) counts in
+    ((kept : List ℕ) × Kept kept) × ((kept : List ℕ) → Kept kept → last_three kept ≡ last)
 Holds (Payload octets check k p) =
     (first_refusal (plan_checks octets check k) ≡ None) × (payload octets check k ≡ p)
 Holds (Back p check k octets) =

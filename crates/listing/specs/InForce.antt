@@ -1,16 +1,19 @@
--- The sheet in force, by the rules alone: what it was opened for, and what its acts handed to it.
--- Assumes nothing.
-use Rattle.std.specs.Prelude.{ℕ, ◌+◌, ◌*◌, ◌/◌, ◌%◌, length, Option}
+-- The sheets that were opened, by the rules alone: what each was opened for, and what its acts
+-- handed to it. They stand in a list, the one in force first: an opening puts a sheet in front,
+-- acts change the first, and those behind it stay as they were. Assumes nothing.
+use Rattle.std.specs.Prelude.{◌≡◌, ℕ, ◌+◌, ◌*◌, ◌/◌, ◌%◌, ◌<◌, Bool, List, [], ◌∷◌, length, Option}
+use Rattle.std.specs.Prelude.{MatchBool, nat_lt, slice_index_or}
 use Rattle.std.specs.Option.{unwrap_or}
 use Rattle.code.specs.Columns.{order_r}
 use Rattle.code.specs.Shapes.{Shape, block_length, places}
 use Rattle.weighing.specs.Alphabets.{Alphabet}
 use Rattle.weighing.specs.Scales.{Scale}
-use Rattle.search.specs.Weights.{Sums}
+use Rattle.search.specs.Weights.{Sums, entry_sums}
+use Rattle.search.specs.declared.Entry.{Entry}
 use Rattle.sheet.specs.Books.{Asked, Book, book_after, book_sums, decoding, empty, taking, wiping}
 
--- The shape that it was opened for, its book, and the octet at which a take with no start field
--- begins.
+-- A sheet that is in force, or was until the next was opened: the shape that it was opened for, its
+-- book, and the octet at which a take with no start field begins.
 pub record InForce : Type 0 where
   pub shape : Shape
   pub book : Book
@@ -44,6 +47,20 @@ force_after sheet asked = record {
   next_start = next_start_after sheet asked;
 }
 
--- the sums of its places, by its book
-abbrev pub sums_of : {A V : Type 0} → Alphabet A V → (s : Scale V) → InForce → Sums s
-sums_of a s sheet = book_sums a s (places sheet.shape) sheet.book
+module _ {A V : Type 0} (a : Alphabet A V) (s : Scale V) where
+  -- the sums of its places, by its book
+  abbrev pub sums_of : InForce → Sums s
+  sums_of sheet = book_sums a s (places sheet.shape) sheet.book
+
+  -- What a place of the tally holds: the sums by the book of the sheet that was opened last of
+  -- those that have this place; and where none has, what it held as it was lent.
+  abbrev pub PlaceHolds : List InForce → (lent left : List (Entry V)) → ℕ → Type 0
+  PlaceHolds [] lent left p = (e : Entry V) → slice_index_or left p e ≡ slice_index_or lent p e
+  PlaceHolds (sheet ∷ earlier) lent left p =
+      MatchBool (nat_lt p (places sheet.shape))
+      ((b : Bool) → entry_sums s left p b ≡ sums_of sheet p b) (PlaceHolds earlier lent left p)
+
+  -- what a tally holds, where these sheets were opened over it
+  pub record TallyHolds (sheets : List InForce) (lent left : List (Entry V)) : Type 0 where
+    pub long : length left ≡ length lent
+    pub each : (p : ℕ) → p < length lent → PlaceHolds sheets lent left p

@@ -1,9 +1,12 @@
+pub mod Buffers
 pub mod Captures
 pub mod Carrying
 pub mod Faults
+pub mod Format
 pub mod InForce
+pub mod Inputs
 pub mod Lines
 pub mod Listings
 pub mod Outcomes
-pub mod Remaining
+pub mod Telling
 pub mod Whole

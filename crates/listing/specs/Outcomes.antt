@@ -1,4 +1,5 @@
--- What comes of an act of a record. It goes by the sheet in force. Assumes nothing.
+-- What comes of an act of a record. It goes by the sheet in force, the first of those that were
+-- opened. Assumes nothing.
 use Rattle.std.specs.Prelude.{◌≡◌, ℕ, Bool, true, List, [], ◌∷◌, length, Some, None, Option}
 use Rattle.block.specs.Bits.{filled}
 use Rattle.block.specs.Refusals.{Check, first_refusal, if_refuse}
@@ -17,10 +18,10 @@ use Rattle.listing.specs.Lines.{LineContent, decode_line}
 use Rattle.listing.specs.declared.faults.Fault.{Fault}
 use Rattle.listing.specs.declared.layouts.Layout.{Layout}
 
--- An act is performed and its record goes on, with the lines of the act and the sheet in force
+-- An act is performed and its record goes on, with the lines of the act and the sheets as they are
 -- behind it; or a fault stops the record.
 pub data Outcome (V : Type 0) : Type 0 where
-  goes_on : (lines : List (LineContent V)) (behind : InForce) → Outcome V
+  goes_on : (lines : List (LineContent V)) (behind : List InForce) → Outcome V
   stops : (fault : Fault) → Outcome V
 
 -- the test of an act that needs a sheet, where none is in force
@@ -38,19 +39,19 @@ module _ {A V : Type 0} (a : Alphabet A V) where
   -- What an act is tested for, over a tally of so many places: what the sheet's call is tested
   -- for, and 13 where there is no sheet. A sheet that was opened has room for its decodes and
   -- wipes.
-  abbrev pub act_checks : ℕ → Option InForce → Act → List Check
-  act_checks room force (an_open octets check) = open_checks (shape_r octets check) room
-  act_checks room (Some sheet) (a_take start symbols) =
+  abbrev pub act_checks : ℕ → List InForce → Act → List Check
+  act_checks room sheets (an_open octets check) = open_checks (shape_r octets check) room
+  act_checks room (sheet ∷ earlier) (a_take start symbols) =
       take_checks a (block_length sheet.shape) room sheet.book.count (start_of sheet start) symbols
-  act_checks room (Some sheet) a_decode = []
-  act_checks room (Some sheet) a_wipe = []
-  act_checks room None (a_take start symbols) = no_sheet
-  act_checks room None a_decode = no_sheet
-  act_checks room None a_wipe = no_sheet
+  act_checks room (sheet ∷ earlier) a_decode = []
+  act_checks room (sheet ∷ earlier) a_wipe = []
+  act_checks room [] (a_take start symbols) = no_sheet
+  act_checks room [] a_decode = no_sheet
+  act_checks room [] a_wipe = no_sheet
 
   -- an act that passes its tests
-  abbrev pub Passes : ℕ → Option InForce → Act → Type 0
-  Passes room force act = first_refusal (act_checks room force act) ≡ None
+  abbrev pub Passes : ℕ → List InForce → Act → Type 0
+  Passes room sheets act = first_refusal (act_checks room sheets act) ≡ None
 
   module _ (s : Scale V) where
     -- A decode tells of a message of the sheet's shape: its weight by the book, the verdict on its
@@ -65,25 +66,30 @@ module _ {A V : Type 0} (a : Alphabet A V) where
       pub verdict_is : IsVerdict sheet.shape message verdict
       pub octets_are : octets ≡ filled message sheet.shape.octets
 
-    -- What comes of an act of the record with this layout, by what is in force: it passes its
-    -- tests, tells its lines, and leaves a sheet in force; or the first test that fails gives the
-    -- fault.
-    pub data ComesOf (room : ℕ) (at : Layout) : Option InForce → Act → Outcome V → Type 0 where
-      open_goes_on : {force : Option InForce} {octets check : ℕ}
-          → Passes room force (an_open octets check)
-          → ComesOf room at force (an_open octets check) (goes_on [] (opened octets check))
-      take_goes_on : {sheet : InForce} {start : Option ℕ} {symbols : List ℕ}
-          → Passes room (Some sheet) (a_take start symbols)
-          → ComesOf room at (Some sheet) (a_take start symbols)
-          (goes_on [] (force_after sheet (taking (start_of sheet start) symbols)))
-      decode_goes_on : {sheet : InForce} {weight : V} {verdict : Verdict} {octets : List ℕ}
-          → Passes room (Some sheet) a_decode → TellsNearest sheet weight verdict octets
-          → ComesOf room at (Some sheet) a_decode
+    -- What comes of an act of the record with this layout, where these sheets were opened: it
+    -- passes its tests, tells its lines, and opens a sheet or changes the one in force; or the
+    -- first test that fails gives the fault.
+    pub data ComesOf (room : ℕ) (at : Layout) : List InForce → Act → Outcome V → Type 0 where
+      open_goes_on : {sheets : List InForce} {octets check : ℕ}
+          → Passes room sheets (an_open octets check)
+          → ComesOf room at sheets (an_open octets check)
+          (goes_on [] (opened octets check ∷ sheets))
+      take_goes_on : {sheet : InForce} {earlier : List InForce} {start : Option ℕ}
+          {symbols : List ℕ}
+          → Passes room (sheet ∷ earlier) (a_take start symbols)
+          → ComesOf room at (sheet ∷ earlier) (a_take start symbols)
+          (goes_on [] (force_after sheet (taking (start_of sheet start) symbols) ∷ earlier))
+      decode_goes_on : {sheet : InForce} {earlier : List InForce} {weight : V} {verdict : Verdict}
+          {octets : List ℕ}
+          → Passes room (sheet ∷ earlier) a_decode → TellsNearest sheet weight verdict octets
+          → ComesOf room at (sheet ∷ earlier) a_decode
           (goes_on (decode_line at.record_number weight verdict octets ∷ [])
-          (force_after sheet decoding))
-      wipe_goes_on : {sheet : InForce} → Passes room (Some sheet) a_wipe
-          → ComesOf room at (Some sheet) a_wipe (goes_on [] (force_after sheet wiping))
-      act_stops : {force : Option InForce} {act : Act} {number : ℕ} {fault : Fault}
-          → first_refusal (act_checks room force act) ≡ Some number
+          (force_after sheet decoding ∷ earlier))
+      wipe_goes_on : {sheet : InForce} {earlier : List InForce}
+          → Passes room (sheet ∷ earlier) a_wipe
+          → ComesOf room at (sheet ∷ earlier) a_wipe
+          (goes_on [] (force_after sheet wiping ∷ earlier))
+      act_stops : {sheets : List InForce} {act : Act} {number : ℕ} {fault : Fault}
+          → first_refusal (act_checks room sheets act) ≡ Some number
           → ActFault at act (first_unlawful act) number fault
-          → ComesOf room at force act (stops fault)
+          → ComesOf room at sheets act (stops fault)

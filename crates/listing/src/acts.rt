@@ -4,7 +4,7 @@ use crate::layouts::Layout;
 
 // An act that a record asks for. A take borrows its symbols from the capture, so that none is
 // copied.
-#[derive(Clone, Copy, Debug, PartialEq)]
+#[derive(Clone, Copy)]
 pub(crate) enum Act<'a> {
     Open {
         octets: usize,
@@ -20,7 +20,7 @@ pub(crate) enum Act<'a> {
 }
 
 // The acts of a record that are still to be carried out.
-#[derive(Clone, Copy, Debug, PartialEq)]
+#[derive(Clone, Copy)]
 pub(crate) struct Acts<'a> {
     open: Option<Act<'a>>,
     take: Option<Act<'a>>,

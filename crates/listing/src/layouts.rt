@@ -5,7 +5,7 @@ use crate::captures::{Map, number};
 // A record's number, counted from 1; where its fields begin: the map, T, L, the start, the count
 // and the symbols; and where the next record begins. An absent field has the place at which it
 // would begin.
-#[derive(Clone, Copy, Debug, PartialEq)]
+#[derive(Clone, Copy)]
 pub(crate) struct Layout {
     pub(crate) record_number: usize,
     pub(crate) map: usize,

@@ -3,9 +3,11 @@
 #![tactic(auto)]
 
 mod acts;
+mod buffers;
 mod captures;
 mod faults;
 mod hex;
+mod input;
 mod layouts;
 mod letters;
 mod lines;
@@ -15,7 +17,9 @@ mod telling;
 mod workspaces;
 mod writing;
 
+pub use buffers::Buffers;
 pub use faults::{Fault, Layer};
+pub use input::list_input;
 pub use letters::{Lettered, known_letters};
 pub use lines::Line;
 pub use listings::list;

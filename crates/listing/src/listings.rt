@@ -1,20 +1,18 @@
 // The entry call.
 ghost use Rattle.std.specs.Prelude.{◌≡◌, ◌≤◌, length};
+ghost use Rattle.listing.specs.Buffers.{contents};
 ghost use Rattle.listing.specs.Captures.{most_capture_octets};
-ghost use Rattle.listing.specs.Remaining.{IsFirstStage};
-ghost use Rattle.listing.specs.Whole.{HoldsTally, ListsCapture, OneListing};
+ghost use Rattle.listing.specs.Format.{ReadsTheFormat};
+ghost use Rattle.listing.specs.Telling.{IsFirstStage};
+ghost use Rattle.listing.specs.Whole.{HoldsLoans, ListsCapture, OneListing};
 
-use crate::MOST_CAPTURE_OCTETS;
-use crate::acts::Acts;
-use crate::layouts::Layout;
 use crate::letters::{Lettered, known_letters};
-use crate::telling::{ByLetter, Lines, Stage};
-use crate::workspaces::Workspace;
-use search::Entry;
+use crate::telling::{ByLetter, Lines, Progress, Stage};
+use crate::{Buffers, MOST_CAPTURE_OCTETS};
 
 // How the listing of a capture begins, by the reading with this letter; none where it is another
 // reading's.
-fn first_stage(capture: &[u8], letter: u8) -> Option<Stage>
+pub(crate) fn first_stage(capture: &[u8], letter: u8) -> Option<Stage>
     ensures { IsFirstStage letter capture.now result }
 {
     if capture.len() > MOST_CAPTURE_OCTETS {
@@ -28,7 +26,7 @@ fn first_stage(capture: &[u8], letter: u8) -> Option<Stage>
 }
 
 // What is read of a capture: nothing of one that is too long.
-fn readable(capture: &[u8]) -> &[u8]
+pub(crate) fn readable(capture: &[u8]) -> &[u8]
     ensures few { length result.now ≤ most_capture_octets }
     ensures whole { length capture.now ≤ most_capture_octets → result.now ≡ capture.now }
 {
@@ -40,32 +38,24 @@ fn readable(capture: &[u8]) -> &[u8]
 }
 
 // The lines of a capture by a reading, unless it begins with the letter of another. Sheets are
-// opened over the tally, which need not be cleared, and which refuses an opening where it has
-// under 32 * N entries. At the lines' end the tally is as it was if no sheet was opened, else it
-// holds what the sheet in force has taken; what else tally and path weights hold then is free.
-pub fn list<'a, R: Lettered>(
-    capture: &'a [u8],
-    tally: &'a mut [Entry<R::Value>],
-    paths: &'a mut [Option<R::Value>; 32],
-) -> ByLetter<'a, R>
-    ensures lists { ListsCapture R.Reading.alphabet R.LETTER capture.now tally.old
+// opened over the tally, which refuses an opening where it has under 32 * N entries. After any
+// number of lines each entry holds what the sheet that was opened last of those with its place has
+// taken, and else what it held before; the path weights hold what they held before, up to the first
+// decode.
+pub fn list<'a, R: Lettered>(capture: &'a [u8], buffers: Buffers<'a, R::Value>) -> ByLetter<'a, R>
+    ensures lists { ListsCapture R.Reading.alphabet R.LETTER capture.now (contents buffers.entry)
         ⟦<Lines<'a, R> as Iterator>⟧.next_gives result }
-    ensures same { HoldsTally tally.entry.ghost_name result }
+    ensures same { HoldsLoans buffers.entry result }
     ensures one { OneListing R.Reading.alphabet R.Weighing.scale }
+    ensures format { ReadsTheFormat }
 {
     let Some(stage) = first_stage(capture, R::LETTER) else {
-        return ByLetter::OfAnother(tally);
+        return ByLetter::OfAnother(buffers);
     };
+    let Buffers { tally, paths } = buffers;
     ByLetter::Lines(Lines {
-        capture: readable(capture),
-        workspace: Workspace {
-            tally,
-            sheet: None,
-            next_start: 0,
-            paths,
-        },
-        at: Layout::letter(),
-        acts: Acts::none(),
-        stage,
+        progress: Progress::at_start(capture, stage),
+        tally,
+        paths,
     })
 }

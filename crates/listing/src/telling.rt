@@ -1,16 +1,20 @@
 // Telling the lines of a capture one by one.
 ghost use Rattle.std.specs.Prelude.{◌<◌, ◌≤◌, length};
+ghost use Rattle.std.specs.Option.{ForSome};
+ghost use Rattle.code.specs.Shapes.{places};
+ghost use Rattle.sheet.specs.Calls.{shape_of_sheet};
 ghost use Rattle.listing.specs.Captures.{most_capture_octets, most_field_place};
 
 use crate::acts::{Act, Acts};
 use crate::layouts::Layout;
+use crate::listings::readable;
 use crate::workspaces::Workspace;
-use crate::{Fault, Line};
+use crate::{Buffers, Fault, Line};
 use search::Entry;
 use weighing::{Reading, Weighing};
 
 // How far a listing is told.
-#[derive(Clone, Copy, Debug, PartialEq)]
+#[derive(Clone, Copy, PartialEq)]
 pub(crate) enum Stage {
     // nothing is told yet of a capture that is too long, or that begins with no letter
     TooLong,
@@ -22,45 +26,68 @@ pub(crate) enum Stage {
     Ended,
 }
 
-// The lines of a capture, told one by one. The bounds see to it that no place and no count
-// overflows.
+// How far the lines of a capture are told. The buffers are lent to each step. The bounds see to it
+// that no place and no count overflows.
 #[derive(Drop)]
-pub struct Lines<'a, W: Weighing> {
-    pub(crate) capture: &'a [u8],
-    pub(crate) workspace: Workspace<'a, W>,
+pub(crate) struct Progress<'a, W: Weighing> {
+    capture: &'a [u8],
+    workspace: Workspace<W>,
     // the record that was read last, and its acts that are still to be carried out
-    pub(crate) at: Layout,
-    pub(crate) acts: Acts<'a>,
-    pub(crate) stage: Stage,
+    at: Layout,
+    acts: Acts<'a>,
+    stage: Stage,
     ghost few: { length capture.now ≤ most_capture_octets },
     ghost within: { at.end ≤ most_capture_octets },
     ghost near: { at.symbols ≤ most_field_place },
     ghost counted: { at.record_number < at.end },
 }
 
-// What a reading makes of a capture, by the letter that it begins with.
-#[derive(Drop)]
-pub enum ByLetter<'a, W: Weighing> {
-    // its lines
-    Lines(Lines<'a, W>),
-    // nothing, since the letter is that of another reading: the tally is handed back
-    OfAnother(&'a mut [Entry<W::Value>]),
+impl<'a, W: Weighing> Progress<'a, W> {
+    ghost use Rattle.std.specs.Prelude.{◌≡◌, ◌≤◌, length};
+    ghost use Rattle.listing.specs.Captures.{most_capture_octets};
+    ghost use Rattle.listing.specs.Telling.{AtStart};
+
+    // Before the first line: nothing is read of a capture that is too long.
+    pub(crate) fn at_start(capture: &'a [u8], stage: Stage) -> Progress<'a, W>
+        ensures { AtStart capture.now stage result }
+    {
+        Progress {
+            capture: readable(capture),
+            workspace: Workspace::closed(),
+            at: Layout::letter(),
+            acts: Acts::none(),
+            stage,
+        }
+    }
 }
 
-impl<'a, R: Reading> Lines<'a, R> {
-    ghost use Rattle.std.specs.Prelude.{◌≡◌, ◌<◌, ◌≤◌, []};
+impl<'a, R: Reading> Progress<'a, R> {
+    ghost use Rattle.std.specs.Prelude.{◌≡◌, ◌<◌, ◌≤◌, [], List, None, OnSome, Option, length};
+    ghost use Rattle.search.specs.declared.Entry.{Entry};
     ghost use Rattle.listing.specs.Captures.{act_of, acts_left};
-    ghost use Rattle.listing.specs.Remaining.{CarriesOn, StepsOn, steps_to_go};
+    ghost use Rattle.listing.specs.Carrying.{HasRoom};
+    ghost use Rattle.listing.specs.Telling.{CarriesOn, Gives, StepsOn, position, steps_to_go};
     ghost use Rattle.listing.specs.declared.telling.Stage.TheVariants.{Ended, Reading};
 
     // Carries out an act of the record that was read last; where a fault stops it, none of its
     // others is left.
-    fn carry_out(&mut self, act: Act<'a>) -> Option<Line<R::Value>>
-        requires { self.old.stage ≡ Reading }
-        ensures goes_on { CarriesOn R.Reading.alphabet (act_of act.entry) self.old result self.new }
+    fn carry_out(
+        &mut self,
+        tally: &mut [Entry<R::Value>],
+        paths: &mut [Option<R::Value>],
+        act: Act<'a>,
+    ) -> Option<Line<R::Value>>
+        requires reading { self.old.stage ≡ Reading }
+        requires room { HasRoom self.old.workspace tally.old }
+        requires states { 32 ≤ length paths.old }
+        ensures goes_on { CarriesOn R.Reading.alphabet (act_of act.entry)
+            (position self.old tally.old paths.old) result
+            (position self.new tally.new paths.new) }
+        ensures room { HasRoom self.new.workspace tally.new }
+        ensures stage { self.new.stage ≡ Reading }
         ensures fewer { steps_to_go self.new ≤ steps_to_go self.old }
     {
-        match self.workspace.perform(self.at, act) {
+        match self.workspace.perform(tally, paths, self.at, act) {
             Ok(line) => line,
             Err(fault) => {
                 self.acts = Acts::none();
@@ -76,7 +103,11 @@ impl<'a, R: Reading> Lines<'a, R> {
     fn begin(&mut self) -> Option<Line<R::Value>>
         requires reading { self.old.stage ≡ Reading }
         requires done { acts_left self.old.acts ≡ [] }
-        ensures goes_on { StepsOn R.Reading.alphabet self.old result self.new }
+        ensures goes_on { (tally : List (Entry R.Value)) (paths : List (Option R.Value))
+            → StepsOn R.Reading.alphabet (position self.old tally paths) result
+            (position self.new tally paths) }
+        ensures room { self.new.workspace ≡ self.old.workspace }
+        ensures going { result ≡ None → self.new.stage ≡ Reading }
         ensures fewer { steps_to_go self.new < steps_to_go self.old }
     {
         if self.at.end >= self.capture.len() {
@@ -102,9 +133,19 @@ impl<'a, R: Reading> Lines<'a, R> {
     }
 
     // One step: an act, the next record or the end. It tells a line or none.
-    fn step(&mut self) -> Option<Line<R::Value>>
-        requires { self.old.stage ≡ Ended → ⊥ }
-        ensures goes_on { StepsOn R.Reading.alphabet self.old result self.new }
+    fn step(
+        &mut self,
+        tally: &mut [Entry<R::Value>],
+        paths: &mut [Option<R::Value>],
+    ) -> Option<Line<R::Value>>
+        requires goes { self.old.stage ≡ Ended → ⊥ }
+        requires room { HasRoom self.old.workspace tally.old }
+        requires states { 32 ≤ length paths.old }
+        ensures goes_on { StepsOn R.Reading.alphabet
+            (position self.old tally.old paths.old) result
+            (position self.new tally.new paths.new) }
+        ensures room { HasRoom self.new.workspace tally.new }
+        ensures going { result ≡ None → self.new.stage ≡ Reading }
         ensures fewer { steps_to_go self.new < steps_to_go self.old }
     {
         match self.stage {
@@ -123,7 +164,7 @@ impl<'a, R: Reading> Lines<'a, R> {
                 })
             }
             Stage::Reading => match self.acts.next() {
-                Some(act) => self.carry_out(act),
+                Some(act) => self.carry_out(tally, paths, act),
                 None => self.begin(),
             },
             Stage::Stopped => {
@@ -135,24 +176,61 @@ impl<'a, R: Reading> Lines<'a, R> {
             Stage::Ended => None,
         }
     }
-}
 
-impl<'a, R: Reading> Iterator for Lines<'a, R> {
-    ghost use Rattle.std.specs.Iterator.{at_most};
-    ghost use Rattle.listing.specs.Remaining.{Gives, steps_to_go};
-
-    type Item = Line<R::Value>;
-
-    ghost next_gives = { Gives R.Reading.alphabet };
-
-    ghost remaining = { λ lines. at_most (steps_to_go lines) };
-
-    fn next(&mut self) -> Option<Line<R::Value>> {
+    // The next line, or none at the end.
+    pub(crate) fn next_line(
+        &mut self,
+        tally: &mut [Entry<R::Value>],
+        paths: &mut [Option<R::Value>],
+    ) -> Option<Line<R::Value>>
+        requires room { HasRoom self.old.workspace tally.old }
+        requires states { 32 ≤ length paths.old }
+        ensures gives { Gives R.Reading.alphabet (position self.old tally.old paths.old) result
+            (position self.new tally.new paths.new) }
+        ensures room { HasRoom self.new.workspace tally.new }
+        ensures fewer { OnSome result (steps_to_go self.new < steps_to_go self.old) }
+    {
         while self.stage != Stage::Ended {
-            if let Some(line) = self.step() {
+            if let Some(line) = self.step(tally, paths) {
                 return Some(line);
             }
         }
         None
+    }
+}
+
+// The lines of a capture, told one by one.
+#[derive(Drop)]
+pub struct Lines<'a, W: Weighing> {
+    pub(crate) progress: Progress<'a, W>,
+    pub(crate) tally: &'a mut [Entry<W::Value>],
+    pub(crate) paths: &'a mut [Option<W::Value>],
+    ghost room: { ForSome progress.workspace.sheet
+        (λ s. places (shape_of_sheet s) ≤ length tally.now) },
+    ghost states: { 32 ≤ length paths.now },
+}
+
+// What a reading makes of a capture, by the letter that it begins with.
+#[derive(Drop)]
+pub enum ByLetter<'a, W: Weighing> {
+    // its lines
+    Lines(Lines<'a, W>),
+    // nothing, since the letter is that of another reading: the buffers are handed back
+    OfAnother(Buffers<'a, W::Value>),
+}
+
+impl<'a, R: Reading> Iterator for Lines<'a, R> {
+    ghost use Rattle.std.specs.Iterator.{at_most};
+    ghost use Rattle.listing.specs.Telling.{steps_to_go};
+    ghost use Rattle.listing.specs.Whole.{LinesGive};
+
+    type Item = Line<R::Value>;
+
+    ghost next_gives = { LinesGive R.Reading.alphabet };
+
+    ghost remaining = { λ lines. at_most (steps_to_go lines.progress) };
+
+    fn next(&mut self) -> Option<Line<R::Value>> {
+        self.progress.next_line(self.tally, self.paths)
     }
 }

@@ -1,8 +1,5 @@
 // Carrying out the acts of a record.
 ghost use Rattle.std.specs.Prelude.{◌≤◌, length};
-ghost use Rattle.std.specs.Option.{ForSome};
-ghost use Rattle.code.specs.Shapes.{places};
-ghost use Rattle.sheet.specs.Calls.{shape_of_sheet};
 
 use crate::acts::Act;
 use crate::layouts::Layout;
@@ -16,30 +13,49 @@ use weighing::{Reading, Weighing};
 // What an act answers: its line, if it has one, or the fault that stops its record.
 type Answer<V> = Result<Option<Line<V>>, Fault>;
 
-// What the acts are carried out on: the tally, the sheet in force, and the octet at which a take
-// with no start field begins. The path weights of the decodes are lent too, since generic code
-// cannot make an array of weights.
+// The sheet in force, and the octet at which a take with no start field begins. The buffers that
+// the acts are carried out on are lent to each call.
 #[derive(Drop)]
-pub(crate) struct Workspace<'a, W: Weighing> {
-    pub(crate) tally: &'a mut [Entry<W::Value>],
+pub(crate) struct Workspace<W: Weighing> {
     pub(crate) sheet: Option<Sheet<W>>,
     pub(crate) next_start: usize,
-    pub(crate) paths: &'a mut [Option<W::Value>],
-    ghost room: { ForSome sheet (λ s. places (shape_of_sheet s) ≤ length tally.now) },
-    ghost states: { 32 ≤ length paths.now },
 }
 
-impl<R: Reading> Workspace<'_, R> {
-    ghost use Rattle.std.specs.Prelude.{◌≤◌};
-    ghost use Rattle.listing.specs.Carrying.{CarriesOut};
+impl<W: Weighing> Workspace<W> {
+    ghost use Rattle.std.specs.Prelude.{◌≡◌, None};
+
+    // No sheet is in force.
+    pub(crate) fn closed() -> Workspace<W>
+        ensures { result.sheet ≡ None }
+    {
+        Workspace {
+            sheet: None,
+            next_start: 0,
+        }
+    }
+}
+
+impl<R: Reading> Workspace<R> {
+    ghost use Rattle.std.specs.Prelude.{ℕ, List, Option};
+    ghost use Rattle.listing.specs.Carrying.{CarriesOut, HasRoom, bench};
     ghost use Rattle.listing.specs.Captures.{a_decode, a_take, a_wipe, act_of, an_open};
     ghost use Rattle.listing.specs.Captures.{most_field_place};
 
     // Opens a sheet. A refused one leaves the sheet in force.
-    fn open(&mut self, at: Layout, octets: usize, check: usize) -> Answer<R::Value>
-        ensures { CarriesOut R.Reading.alphabet at (an_open octets check) self.old self.new result }
+    fn open(
+        &mut self,
+        tally: &mut [Entry<R::Value>],
+        at: Layout,
+        octets: usize,
+        check: usize,
+    ) -> Answer<R::Value>
+        requires { HasRoom self.old tally.old }
+        ensures does { (paths : List (Option R.Value))
+            → CarriesOut R.Reading.alphabet at (an_open octets check)
+            (bench self.old tally.old paths) (bench self.new tally.new paths) result }
+        ensures room { HasRoom self.new tally.new }
     {
-        match Sheet::open(octets, check, Order::order_r(), self.tally) {
+        match Sheet::open(octets, check, Order::order_r(), tally) {
             Ok(sheet) => {
                 self.sheet = Some(sheet);
                 self.next_start = 0;
@@ -50,16 +66,25 @@ impl<R: Reading> Workspace<'_, R> {
     }
 
     // Takes symbols from octet `start` on, or from where the last take ended.
-    fn take(&mut self, at: Layout, start: Option<usize>, symbols: &[u8]) -> Answer<R::Value>
-        requires { at.symbols ≤ most_field_place }
-        ensures { CarriesOut R.Reading.alphabet at (a_take start symbols.now)
-            self.old self.new result }
+    fn take(
+        &mut self,
+        tally: &mut [Entry<R::Value>],
+        at: Layout,
+        start: Option<usize>,
+        symbols: &[u8],
+    ) -> Answer<R::Value>
+        requires symbols { at.symbols ≤ most_field_place }
+        requires room { HasRoom self.old tally.old }
+        ensures does { (paths : List (Option R.Value))
+            → CarriesOut R.Reading.alphabet at (a_take start symbols.now)
+            (bench self.old tally.old paths) (bench self.new tally.new paths) result }
+        ensures room { HasRoom self.new tally.new }
     {
         let Some(sheet) = &mut self.sheet else {
             return Err(Fault::NoSheet { place: at.map });
         };
         let start = start.unwrap_or(self.next_start);
-        match sheet.take(self.tally, start, symbols) {
+        match sheet.take(tally, start, symbols) {
             Ok(_) => {
                 self.next_start = (start + symbols.len() / 8) % (4 * sheet.block_octets());
                 Ok(None)
@@ -68,9 +93,18 @@ impl<R: Reading> Workspace<'_, R> {
         }
     }
 
-    // Names the nearest message.
-    fn decode(&mut self, at: Layout) -> Answer<R::Value>
-        ensures { CarriesOut R.Reading.alphabet at a_decode self.old self.new result }
+    // Names the nearest message. The path weights are lent, since generic code cannot make an array
+    // of weights.
+    fn decode(
+        &self,
+        tally: &[Entry<R::Value>],
+        paths: &mut [Option<R::Value>],
+        at: Layout,
+    ) -> Answer<R::Value>
+        requires room { HasRoom self.now tally.now }
+        requires states { 32 ≤ length paths.old }
+        ensures { CarriesOut R.Reading.alphabet at a_decode
+            (bench self.now tally.now paths.old) (bench self.now tally.now paths.new) result }
     {
         let Some(sheet) = &self.sheet else {
             return Err(Fault::NoSheet { place: at.map });
@@ -79,9 +113,8 @@ impl<R: Reading> Workspace<'_, R> {
         let mut survivors = [0; MOST_STEPS];
         let mut scratch = Scratch {
             survivors: &mut survivors,
-            paths: self.paths,
+            paths: &mut paths[..32],
         };
-        let tally = &mut *self.tally;
         let decoded = sheet.decode(tally, &mut block, &mut scratch).unwrap();
         Ok(Some(Line::Decode {
             record: at.record_number,
@@ -95,27 +128,40 @@ impl<R: Reading> Workspace<'_, R> {
     }
 
     // Wipes the sheet.
-    fn wipe(&mut self, at: Layout) -> Answer<R::Value>
-        ensures { CarriesOut R.Reading.alphabet at a_wipe self.old self.new result }
+    fn wipe(&mut self, tally: &mut [Entry<R::Value>], at: Layout) -> Answer<R::Value>
+        requires { HasRoom self.old tally.old }
+        ensures does { (paths : List (Option R.Value)) → CarriesOut R.Reading.alphabet at a_wipe
+            (bench self.old tally.old paths) (bench self.new tally.new paths) result }
+        ensures room { HasRoom self.new tally.new }
     {
         let Some(sheet) = &mut self.sheet else {
             return Err(Fault::NoSheet { place: at.map });
         };
-        sheet.wipe(self.tally).unwrap();
+        sheet.wipe(tally).unwrap();
         self.next_start = 0;
         Ok(None)
     }
 
     // Carries out an act of the record with this layout.
-    pub(crate) fn perform(&mut self, at: Layout, act: Act<'_>) -> Answer<R::Value>
-        requires { at.symbols ≤ most_field_place }
-        ensures { CarriesOut R.Reading.alphabet at (act_of act.entry) self.old self.new result }
+    pub(crate) fn perform(
+        &mut self,
+        tally: &mut [Entry<R::Value>],
+        paths: &mut [Option<R::Value>],
+        at: Layout,
+        act: Act<'_>,
+    ) -> Answer<R::Value>
+        requires symbols { at.symbols ≤ most_field_place }
+        requires room { HasRoom self.old tally.old }
+        requires states { 32 ≤ length paths.old }
+        ensures does { CarriesOut R.Reading.alphabet at (act_of act.entry)
+            (bench self.old tally.old paths.old) (bench self.new tally.new paths.new) result }
+        ensures room { HasRoom self.new tally.new }
     {
         match act {
-            Act::Open { octets, check } => self.open(at, octets, check),
-            Act::Take { start, symbols } => self.take(at, start, symbols),
-            Act::Decode => self.decode(at),
-            Act::Wipe => self.wipe(at),
+            Act::Open { octets, check } => self.open(tally, at, octets, check),
+            Act::Take { start, symbols } => self.take(tally, at, start, symbols),
+            Act::Decode => self.decode(tally, paths, at),
+            Act::Wipe => self.wipe(tally, at),
         }
     }
 }

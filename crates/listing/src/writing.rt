@@ -1,8 +1,11 @@
 // Writing a listing as text.
-ghost use Rattle.std.specs.Prelude.{length, IfOk};
+ghost use Rattle.std.specs.Prelude.{◌≤◌, length};
+ghost use Rattle.listing.specs.Buffers.{contents};
 ghost use Rattle.listing.specs.Whole.{WritesByLetter, WritesListing};
 
-use crate::{ByLetter, Lettered, list};
+use crate::listings::first_stage;
+use crate::telling::Progress;
+use crate::{Buffers, Lettered};
 use search::Entry;
 use std::fmt;
 use std::io::{self, Write};
@@ -10,29 +13,48 @@ use weighing::hard::Hard;
 use weighing::soft::Soft;
 use weighing::worst::Worst;
 
-// Writes the listing of a capture by a reading, each line with a newline, unless the capture begins
-// with the letter of another; answers whether it does not. The rest is as for `list`.
-pub fn write_listing<R: Lettered, O: Write>(
+// What `write_listing` does, over buffers that are lent by themselves.
+fn write_over<R: Lettered, O: Write>(
     capture: &[u8],
     tally: &mut [Entry<R::Value>],
-    paths: &mut [Option<R::Value>; 32],
+    paths: &mut [Option<R::Value>],
     output: &mut O,
 ) -> io::Result<bool>
 where
     R::Value: fmt::Display,
-    ensures { IfOk result (WritesListing R.Reading.alphabet R.Weighing.scale R.LETTER
-        (length tally.old) capture.now R.Value.Display.output
-        (O.contents output.old) (O.contents output.new)) }
+    requires { 32 ≤ length paths.old }
+    ensures { WritesListing R.Reading.alphabet R.Weighing.scale R.LETTER capture.now
+        (record { tally = tally.old; paths = paths.old })
+        (record { tally = tally.new; paths = paths.new })
+        R.Value.Display.output (O.contents output.old) (O.contents output.new) result }
 {
-    match list::<R>(capture, tally, paths) {
-        ByLetter::OfAnother(_) => Ok(false),
-        ByLetter::Lines(lines) => {
-            for line in lines {
-                writeln!(output, "{line}")?;
-            }
-            Ok(true)
-        }
+    let Some(stage) = first_stage(capture, R::LETTER) else {
+        return Ok(false);
+    };
+    let mut progress = Progress::<R>::at_start(capture, stage);
+    while let Some(line) = progress.next_line(tally, paths) {
+        writeln!(output, "{line}")?;
     }
+    Ok(true)
+}
+
+// Writes the listing of a capture by a reading, each line with a newline, and answers true; answers
+// false, and writes nothing, where the capture begins with the letter of another. The rest is as
+// for `list`.
+pub fn write_listing<R: Lettered, O: Write>(
+    capture: &[u8],
+    buffers: Buffers<'_, R::Value>,
+    output: &mut O,
+) -> io::Result<bool>
+where
+    R::Value: fmt::Display,
+    ensures { WritesListing R.Reading.alphabet R.Weighing.scale R.LETTER capture.now
+        (contents buffers.entry)
+        (record { tally = buffers.exit.0.now; paths = buffers.exit.1.0.now })
+        R.Value.Display.output (O.contents output.old) (O.contents output.new) result }
+{
+    let Buffers { tally, paths } = buffers;
+    write_over::<R, O>(capture, tally, paths, output)
 }
 
 // Writes the listing of a capture by the reading that its letter names; of one that is too long or
@@ -44,16 +66,28 @@ pub fn write_by_letter<O: Write>(
     largest: &mut [Entry<u8>],
     output: &mut O,
 ) -> io::Result<()>
-    ensures { IfOk result (λ done. WritesByLetter (length sums.old) (length largest.old) capture.now
-        (O.contents output.old) (O.contents output.new)) }
+    ensures { WritesByLetter capture.now (O.contents output.old) (O.contents output.new) result
+        sums.old sums.new largest.old largest.new }
 {
-    if write_listing::<Hard, O>(capture, sums, &mut [None; 32], output)? {
+    let hard = Buffers {
+        tally: &mut *sums,
+        paths: &mut [None; 32],
+    };
+    if write_listing::<Hard, O>(capture, hard, output)? {
         return Ok(());
     }
-    if write_listing::<Soft, O>(capture, sums, &mut [None; 32], output)? {
+    let soft = Buffers {
+        tally: sums,
+        paths: &mut [None; 32],
+    };
+    if write_listing::<Soft, O>(capture, soft, output)? {
         return Ok(());
     }
     // it is the last one's
-    write_listing::<Worst, O>(capture, largest, &mut [None; 32], output)?;
+    let worst = Buffers {
+        tally: largest,
+        paths: &mut [None; 32],
+    };
+    write_listing::<Worst, O>(capture, worst, output)?;
     Ok(())
 }

@@ -24,7 +24,7 @@ use Rattle.sheet.specs.Calls.{Decodes, NamesNearest, shape_of_sheet}
 use Rattle.sheet.specs.declared.answers.Decoded.{Decoded}
 use Rattle.sheet.specs.declared.sheets.Sheet.{Sheet}
 use Rattle.nearest.specs.ShortRuns.{Lent, ThreeCalls, smallest}
-use Rattle.nearest.specs.Undamaged.{NamesSent, NamesWithoutWeight, RoomFor, counting, heard}
+use Rattle.nearest.specs.Undamaged.{NamesSent, NamesWithoutWeight, RoomFor, SentInAll, TakesUndamaged, counting, heard}
 use Rattle.nearest.specs.declared.runs.ShortRun.{ShortRun}
 use Rattle.nearest.proofs.Fitting.{own_bit}
 use Rattle.nearest.proofs.Sent.{decodes_what_was_sent}
@@ -70,12 +70,25 @@ module _ {W : Type 0} where
       (own_octet x small target target' (bits_of target' 12) (length-map-range_with_len (bit_at target') 0 12) sent.0 written, sent.1, sent.2)
   back_named x small tally sheet same target target' scratch scratch' (Err e) decodes sent = sent
 
-  pub gives_back : (x k : ℕ) → x < 256 → k ≤ 24 → (before buffer : List ℕ) → Encodes (x ∷ []) 4 order_r before buffer (Ok tt)
+  pub gives_back : (x k : ℕ) → x < 256 → k ≤ 24 → (before buffer kept : List ℕ) → Encodes (x ∷ []) 4 order_r before buffer (Ok tt) → SentInAll 1 4 buffer (payload 1 4 k) kept
       → (before-run after-run : Lent ℕ) (run : ShortRun W HardSymbol ℕ counting) → RoomFor 2 before-run.target before-run.scratch
-      → ThreeCalls counting hard_alphabet 0 (heard buffer (payload 1 4 k)) before-run after-run run → NamesWithoutWeight (get_or after-run.target 0 0 ≡ x) run.decoded
-  gives_back x k small rate before buffer encode from to run rooms calls =
-      let heard_so = heard buffer (payload 1 4 k) in
-      let sent = (decodes_what_was_sent W (x ∷ []) 4 k order_r before buffer rate encode from.tally calls.opened to.tally calls.new_sheet run.sheet run.taken calls.opening calls.taking).1
-      from.target to.target from.scratch to.scratch run.decoded rooms calls.decoding in
-      back_named x small to.tally run.sheet (shape_after smallest from.tally calls.opened to.tally calls.new_sheet run.sheet 0 heard_so run.taken calls.opening calls.taking)
-      from.target to.target from.scratch to.scratch run.decoded calls.decoding sent
+      → ThreeCalls counting hard_alphabet 0 (heard kept) before-run after-run run → NamesWithoutWeight (get_or after-run.target 0 0 ≡ x) run.decoded
+  gives_back x k small rate before buffer kept encode sent from to run rooms calls =
+      let takes : TakesUndamaged W (x ∷ []) 4 k order_r run.sheet to.tally run.taken = record {
+        before = before;
+        buffer = buffer;
+        encoding = encode;
+        kept = kept;
+        sent = sent;
+        tally = from.tally;
+        opened = calls.opened;
+        new_sheet = calls.new_sheet;
+        opening = calls.opening;
+        lent = calls.opened;
+        own = refl;
+        taking = calls.taking;
+      } in
+      let named = (decodes_what_was_sent W (x ∷ []) 4 k order_r rate run.sheet to.tally run.taken takes).1
+      to.tally from.target to.target from.scratch to.scratch run.decoded refl rooms calls.decoding in
+      back_named x small to.tally run.sheet (shape_after smallest from.tally calls.opened calls.opened to.tally calls.new_sheet run.sheet 0 (heard kept) run.taken calls.opening calls.taking)
+      from.target to.target from.scratch to.scratch run.decoded calls.decoding named

@@ -25,22 +25,23 @@ use Rattle.search.specs.Scratch.{Scratch}
 use Rattle.search.specs.declared.Entry.{Entry}
 use Rattle.search.specs.declared.refusal.FindRefusal.{FindRefusal}
 use Rattle.sheet.specs.Books.{laid, sum_behind}
-use Rattle.sheet.specs.Calls.{Cleared, Decodes, Laid, NamesNearest, block_length_of, shape_of_sheet, take_checks}
+use Rattle.sheet.specs.Calls.{Decodes, Laid, NamesNearest, Takes, block_length_of, shape_of_sheet, take_checks}
 use Rattle.sheet.specs.Verdicts.{IsVerdict}
 use Rattle.sheet.specs.declared.answers.Decoded.{Decoded}
 use Rattle.sheet.specs.declared.answers.Verdict.{Verdict}
 use Rattle.sheet.specs.declared.answers.Verdict.TheVariants.{DoesNotFit, Fits}
 use Rattle.sheet.specs.declared.sheets.Sheet.{Sheet}
-use Rattle.nearest.specs.Undamaged.{DecodesWhatWasSent, NamesSent, RoomFor, counting, heard}
+use Rattle.sheet.specs.Runs.{SamePlaces}
+use Rattle.nearest.specs.Undamaged.{DecodesWhatWasSent, NamesSent, RoomFor, counting, heard, shape_for}
 use Rattle.nearest.proofs.Fitting.{report_fits}
 use Rattle.nearest.proofs.Heard.{own_weighs, sum_hit, sum_miss, weighs, weighs_own}
 use Rattle.nearest.proofs.Inverse.{place_back}
-use Rattle.nearest.proofs.Taken.{heard_length, heard_passes, shape_after, taken_all}
+use Rattle.nearest.proofs.Taken.{first_heard, heard_length, heard_passes, heard_sent, shape_after, taken_all}
 use Rattle.nearest.proofs.Zeros.{added_none, first_zero, only_zero}
-use Rattle.sheet.proofs.Keeping.{opened_room, ordered, whole as whole_octets}
+use Rattle.sheet.proofs.Keeping.{opened_room, ordered, same_room, same_sums, whole as whole_octets}
 
 -- the first payload has all octets of output 1, and fits the buffer
-payload_long : (octets check k : ℕ) → k ≤ 24 → (block_octets octets check ≤ payload octets check k) × (payload octets check k ≤ 4 * block_octets octets check)
+pub payload_long : (octets check k : ℕ) → k ≤ 24 → (block_octets octets check ≤ payload octets check k) × (payload octets check k ≤ 4 * block_octets octets check)
 payload_long octets check k h =
     let n = block_octets octets check in
     let low : n * 8 ≤ n * (8 + k) = mul-le-mul_left n (omega arith) in
@@ -108,11 +109,12 @@ fits_is : (shape : Shape) (message : List Bool) (verdict : Verdict) → IsVerdic
 fits_is shape message Fits is fits = refl
 fits_is shape message DoesNotFit is fits = absurd (is fits)
 
--- What is heard of a buffer after a report was encoded into it, and taken onto a new sheet.
+-- What is heard of a buffer after a report was encoded into it, and taken onto a new sheet; a decode is lent the same entries.
 module _ (report : List ℕ) (check k : ℕ) (order before buffer : List ℕ) (rate : k ≤ 24) (is : is_order order ≡ true)
     (size : 8 * length report + check + 4 ≡ 8 * block_octets (length report) check) (encode : Encodes report check order before buffer (Ok tt))
-    (tally opened taken : List (Entry ℕ)) (cleared_so : Cleared counted (block_octets (length report) check) tally opened)
-    (lays : Laid hard_alphabet counted (block_octets (length report) check) 0 (heard buffer (payload (length report) check k)) opened taken) where
+    (lent left taken : List (Entry ℕ)) (zeros : (p : ℕ) (b : Bool) → p < 32 * block_octets (length report) check → entry_sums counted lent p b ≡ counted.zero)
+    (lays : Laid hard_alphabet counted (block_octets (length report) check) 0 (first_heard buffer (payload (length report) check k)) lent left)
+    (own : SamePlaces (block_octets (length report) check) taken left) where
   abbrev octets : ℕ
   octets = length report
 
@@ -138,8 +140,8 @@ module _ (report : List ℕ) (check k : ℕ) (order before buffer : List ℕ) (r
   holds p h = cc (encode.1, bit_at_octets (place_bit order n (coded sent)) (4 * n) (drop (4 * n) before) p (omega arith))
 
   laid_sum : (p : ℕ) (b : Bool) → p < 32 * n
-      → entry_sums counted taken p b ≡ sum_behind hard_alphabet counted counted.zero p b (laid hard_alphabet (32 * n) 0 (heard buffer (payload octets check k)))
-  laid_sum p b h = cc (lays.sums p b h, cleared_so.zeros p b h)
+      → entry_sums counted taken p b ≡ sum_behind hard_alphabet counted counted.zero p b (laid hard_alphabet (32 * n) 0 (first_heard buffer (payload octets check k)))
+  laid_sum p b h = cc (same_sums counted n taken left own p b h, lays.sums p b h, zeros p b h)
 
   hit : (p : ℕ) (b : Bool) → p < m → entry_sums counted taken p b ≡ weighs (bit_at buffer p) b
   hit p b h =
@@ -181,27 +183,32 @@ module _ (report : List ℕ) (check k : ℕ) (order before buffer : List ℕ) (r
 
 module _ (W : Type 0) where
   pub decodes_what_was_sent : DecodesWhatWasSent W
-  decodes_what_was_sent report check k order before buffer rate encode tally opened left new_sheet sheet r opens takes =
+  decodes_what_was_sent report check k order rate sheet left r t =
       let octets = length report in
-      let shape : Shape = record { octets = octets; check = check; order = order } in
+      let shape = shape_for report check order in
       let n = block_octets octets check in
-      let made = opens.1 in
+      let new_sheet = t.new_sheet in
+      let made = t.opening.1 in
       let p = payload octets check k in
-      let symbols = heard buffer p in
       let same : block_length_of new_sheet ≡ n = ap block_length made.shape_is in
       let size : 8 * octets + check + 4 ≡ 8 * n = whole_octets new_sheet shape made.shape_is in
       let is : is_order order ≡ true = ordered new_sheet shape made.shape_is in
       let long = payload_long octets check k rate in
-      let room : 32 * n ≤ length opened = omega (arith, opened_room shape (length tally) opens.0, made.cleared.front.long) in
-      let passes : first_refusal (take_checks hard_alphabet (block_length_of new_sheet) (length opened) new_sheet.count 0 symbols) ≡ None =
-      heard_passes (block_length_of new_sheet) (length opened) new_sheet.count p buffer (omega (arith, new_sheet.shape.size.some)) (omega (arith, new_sheet.shape.size.few, new_sheet.shape.size.short)) (omega (arith, same)) (omega (arith, same)) (omega (arith, same)) made.none_taken in
-      let performed = taken_all new_sheet sheet opened left 0 symbols r passes takes in
-      let lays = subst (λ x. Laid hard_alphabet counted x 0 symbols opened left) same performed.1 in
-      let count = heard_length buffer p in
-      let total : new_sheet.count + length symbols ≡ 8 * p = omega (arith, made.none_taken) in (
-        performed.0 ∙ ap (λ t. Ok (record { total = t })) total,
-        λ target target' scratch scratch' decoded rooms decodes.
-            found_sent report check k order before buffer rate is size encode tally opened left made.cleared lays sheet
-            (shape_after shape tally opened left new_sheet sheet 0 symbols r opens takes) target target' scratch scratch' decoded
-            (omega (arith, lays.front.long)) rooms decodes,
+      let symbols : heard t.kept ≡ first_heard t.buffer p = heard_sent octets check p t.buffer t.kept long.1 t.sent in
+      let takes = subst (λ xs. Takes hard_alphabet new_sheet sheet t.lent left 0 xs r) symbols t.taking in
+      let room : 32 * n ≤ length t.lent =
+      same_room n t.lent t.opened t.own (omega (arith, opened_room shape (length t.tally) t.opening.0, made.cleared.front.long)) in
+      let passes : first_refusal (take_checks hard_alphabet (block_length_of new_sheet) (length t.lent) new_sheet.count 0 (first_heard t.buffer p)) ≡ None =
+      heard_passes (block_length_of new_sheet) (length t.lent) new_sheet.count p t.buffer (omega (arith, new_sheet.shape.size.some)) (omega (arith, new_sheet.shape.size.few, new_sheet.shape.size.short)) (omega (arith, same)) (omega (arith, same)) (omega (arith, same)) made.none_taken in
+      let performed = taken_all new_sheet sheet t.lent left 0 (first_heard t.buffer p) r passes takes in
+      let lays = subst (λ x. Laid hard_alphabet counted x 0 (first_heard t.buffer p) t.lent left) same performed.1 in
+      let zeros : (q : ℕ) (b : Bool) → q < 32 * n → entry_sums counted t.lent q b ≡ counted.zero =
+      λ q b h. same_sums counted n t.lent t.opened t.own q b h ∙ made.cleared.zeros q b h in
+      let count = heard_length t.buffer p in
+      let total : new_sheet.count + length (first_heard t.buffer p) ≡ 8 * p = omega (arith, made.none_taken) in (
+        performed.0 ∙ ap (λ m. Ok (record { total = m })) total,
+        λ lent target target' scratch scratch' decoded own rooms decodes.
+            found_sent report check k order t.before t.buffer rate is size t.encoding t.lent left lent zeros lays own sheet
+            (shape_after shape t.tally t.opened t.lent left new_sheet sheet 0 (heard t.kept) r t.opening t.taking) target target' scratch scratch' decoded
+            (same_room n lent left own (omega (arith, lays.front.long))) rooms decodes,
       )

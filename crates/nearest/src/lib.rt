@@ -3,8 +3,6 @@
 #![tactic(auto)]
 
 mod runs;
-#[cfg(test)]
-mod tests;
 mod undamaged;
 
 pub use runs::{ShortRun, nearest_message};

@@ -1,15 +1,16 @@
 -- Every sending sends the buffer in rounds. Assumes nothing.
-use Rattle.std.proofs.Common.{◌≡◌, ℕ, ◌+◌, ◌-◌, ◌%◌, ◌<◌, ◌≤◌, inl, inr, List, ◌++◌, map, length, get_or, take, drop, None, Ok, Err, Result, rules, sym, refl, ap, ◌∙◌, subst, add-zero, add_assoc, zero-add, arith}
+use Rattle.std.proofs.Common.{◌≡◌, ℕ, ◌+◌, ◌-◌, ◌%◌, ◌<◌, ◌≤◌, inl, inr, List, ◌++◌, map, length, sum, get_or, take, drop, None, Ok, Err, Result, rules, sym, refl, ap, ◌∙◌, subst, add-zero, add_assoc, zero-add, arith}
 use native.Mathlib.Nat.{zero-mod, mod-add-mod}
 use Rattle.std.proofs.lemmas.List.FromFn.{length-map-range_with_len, get_or-map-range_with_len, fill_by_all}
 use Rattle.std.specs.List.{range_with_len}
 use Rattle.std.proofs.lemmas.List.{get_or-take, append-nil, take_at, length-append, get_or_append_left, get_or-append_right}
+use Rattle.std.proofs.lemmas.List.Sums.{sum_by_push}
 use Rattle.std.proofs.lemmas.Bool.{cases_lt}
 use Rattle.std.proofs.lemmas.Nat.{mod_below}
 use Rattle.block.specs.Refusals.{first_refusal}
 use Rattle.sender.specs.declared.passages.PassageRefusal.{PassageRefusal}
 use Rattle.sender.specs.Passages.{Guard, round_of, sent, copy_checks, Copies}
-use Rattle.sender.specs.Sendings.{CopiesInTurn, none, next, OwnBuffer, Sending, made, confirmed, given_up, written, asked_of, SendsInRounds}
+use Rattle.sender.specs.Sendings.{CopiesInTurn, none, next, OwnBuffer, Sending, made, confirmed, given_up, leaked, written, asked_of, asked_each, SendsInRounds}
 
 -- what is sent from octet a on, and then from behind that on
 sent_add : (buffer : List ℕ) (octets a m n : ℕ) → sent buffer octets a m ++ sent buffer octets (a + m) n ≡ sent buffer octets a (m + n)
@@ -43,7 +44,7 @@ some_round round given room count e = search rules
 -- copies that begin where a octets end
 record Followed (buffer : List ℕ) (g h : Guard) (a : ℕ) (wrote : List ℕ) (asked : ℕ) : Type 0 where
   wrote_is : wrote ≡ sent buffer g.round a asked
-  cursor_is : h.cursor ≡ (a + asked) % g.round
+  standing_is : h.standing ≡ (a + asked) % g.round
   round_is : h.round ≡ g.round
 
 -- one copy more, performed or refused
@@ -52,37 +53,37 @@ step : (buffer : List ℕ) (g h h' : Guard) (a : ℕ) (wrote : List ℕ) (asked 
     → Followed buffer g h' a (wrote ++ written r count target') (asked + asked_of r count)
 step buffer g h h' a wrote asked handed target target' count (Ok x) f d own =
     let round = g.round in
-    let front = take_at (sent handed h.round h.cursor count) (drop count target) count (length-map-range_with_len _ 0 count) in
-    let same = sent_front handed buffer h.round h.cursor count (some_round h.round (length handed) (length target) count d.0) own in
+    let front = take_at (sent handed h.round h.standing count) (drop count target) count (length-map-range_with_len _ 0 count) in
+    let same = sent_front handed buffer h.round h.standing count (some_round h.round (length handed) (length target) count d.0) own in
     let placed = sent_mod buffer round (a + asked) count in
     let more = sent_add buffer round a asked count in
     let turn = mod-add-mod (a + asked) round count in
     let behind = add_assoc a asked count in
     record {
       wrote_is = cc;
-      cursor_is = cc;
+      standing_is = cc;
       round_is = cc;
     }
 step buffer g h h' a wrote asked handed target target' count (Err e) f d own =
     let same = add-zero asked in
     record {
       wrote_is = cc (append-nil wrote);
-      cursor_is = cc;
+      standing_is = cc;
       round_is = cc;
     }
 
--- a passage remembers where it began
-stays : {buffer : List ℕ} {g h : Guard} {wrote : List ℕ} {asked : ℕ} → CopiesInTurn buffer g h wrote asked → h.before ≡ g.before
-stays none = refl
-stays (next c handed target target' count h' (Ok x) d own) = ap (λ k. k.before) d.1.1 ∙ stays c
-stays (next c handed target target' count h' (Err e) d own) = ap (λ k. k.before) d.2.1 ∙ stays c
+-- copies leave the sender's cursor, and a passage remembers where it began
+stays : {buffer : List ℕ} {g h : Guard} {wrote : List ℕ} {asked : ℕ} → CopiesInTurn buffer g h wrote asked → (h.cursor ≡ g.cursor) × (h.before ≡ g.before)
+stays none = (refl, refl)
+stays (next c handed target target' count h' (Ok x) d own) = let s = stays c in (ap (λ k. k.cursor) d.1.1 ∙ s.0, ap (λ k. k.before) d.1.1 ∙ s.1)
+stays (next c handed target target' count h' (Err e) d own) = let s = stays c in (ap (λ k. k.cursor) d.2.1 ∙ s.0, ap (λ k. k.before) d.2.1 ∙ s.1)
 
 -- so it is after any copies on a passage
-followed : (buffer : List ℕ) (g h : Guard) (a : ℕ) (wrote : List ℕ) (asked : ℕ) → CopiesInTurn buffer g h wrote asked → g.cursor ≡ a % g.round → Followed buffer g h a wrote asked
+followed : (buffer : List ℕ) (g h : Guard) (a : ℕ) (wrote : List ℕ) (asked : ℕ) → CopiesInTurn buffer g h wrote asked → g.standing ≡ a % g.round → Followed buffer g h a wrote asked
 followed buffer g _ a _ _ none e =
     record {
       wrote_is = refl;
-      cursor_is = cc (e, add-zero a);
+      standing_is = cc (e, add-zero a);
       round_is = refl;
     }
 followed buffer g _ a _ _ (next {h} {wrote} {asked} c handed target target' count h' r d own) e =
@@ -106,7 +107,11 @@ upheld octets check buffer _ _ _ (confirmed {cursor} {kept} {wrote} {asked} {mor
 upheld octets check buffer _ _ _ (given_up {cursor} {kept} {wrote} {asked} {more} {h} sending p cursor' d) =
     let k = upheld octets check buffer cursor kept asked sending in
     let b = p.begun in
-    record { kept_is = k.kept_is; stands = cc (stays p.copied) }
+    record { kept_is = k.kept_is; stands = let s = stays p.copied in cc (s.1) }
+upheld octets check buffer _ _ _ (leaked {cursor} {kept} {wrote} {asked} {more} {h} sending p cursor' d) =
+    let k = upheld octets check buffer cursor kept asked sending in
+    let b = p.begun in
+    record { kept_is = k.kept_is; stands = let s = stays p.copied in cc (s.0) }
 
 -- the confirmed octets as one list
 pub sending_sent : (octets check : ℕ) (buffer : List ℕ) (cursor : ℕ) (kept : List ℕ) (asked : ℕ) → Sending octets check buffer cursor kept asked → kept ≡ sent buffer (round_of octets check) 0 asked
@@ -125,3 +130,10 @@ sends_in_rounds octets check buffer cursor kept asked sending =
           ∙ ap (λ n. get_or buffer (n % octets') 0) (zero-add j);
       stands = k.stands;
     }
+
+-- what its confirmed passages were asked for in all
+pub asked_sum : {octets check : ℕ} {buffer : List ℕ} {cursor : ℕ} {kept : List ℕ} {asked : ℕ} → (sending : Sending octets check buffer cursor kept asked) → asked ≡ sum (asked_each sending)
+asked_sum (made s m) = refl
+asked_sum (confirmed {more} sending p cursor' c) = ap (λ n. n + more) (asked_sum sending) ∙ sym (sum_by_push (λ n. n) (asked_each sending) more)
+asked_sum (given_up sending p cursor' g) = asked_sum sending
+asked_sum (leaked sending p cursor' l) = asked_sum sending

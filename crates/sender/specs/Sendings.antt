@@ -1,10 +1,12 @@
--- Sendings of one buffer: a sender is made, and passages then begin, copy, and are confirmed or
--- given up. Each step is what the call's contract says. Assumes nothing.
-use Rattle.std.specs.Prelude.{◌≡◌, ℕ, ◌+◌, ◌%◌, ◌<◌, List, [], ◌++◌, length, take, Ok, Err, Result}
-use Rattle.std.specs.Prelude.{slice_index}
+-- Sendings of one buffer: a sender is made, and passages then begin, copy, and are confirmed, given
+-- up or leaked. Each step is what the call's contract says; a leak is no call, and leaves the
+-- cursor as the copies did. Assumes nothing.
+use Rattle.std.specs.Prelude.{◌≡◌, ℕ, ◌+◌, ◌%◌, ◌<◌, List, [], ◌∷◌, ◌++◌, length, take, Ok, Err}
+use Rattle.std.specs.Prelude.{slice_index, Result}
 use Rattle.sender.specs.declared.senders.Sender.{Sender}
 use Rattle.sender.specs.declared.passages.PassageRefusal.{PassageRefusal}
-use Rattle.sender.specs.Passages.{Begins, Confirms, Copies, GivesUp, Guard, MakesSender, round_of}
+use Rattle.sender.specs.Passages.{Begins, Confirms, Copies, GivesUp, Guard, Leaks, MakesSender}
+use Rattle.sender.specs.Passages.{round_of}
 
 -- what a copy wrote, and how many octets it was asked for; a refused copy wrote nothing and does
 -- not count
@@ -32,7 +34,7 @@ pub data CopiesInTurn (buffer : List ℕ) (g : Guard) : Guard → List ℕ → �
       → CopiesInTurn buffer g h' (wrote ++ written r count target') (asked + asked_of r count)
 
 -- A passage of a sender for T and L that stands at `cursor`: what its copies wrote and were asked
--- for, and the passage h that its end finds.
+-- for, and the passage h that they leave.
 pub record PassageFrom (octets check : ℕ) (buffer : List ℕ) (cursor : ℕ)
     (wrote : List ℕ) (asked : ℕ) (h : Guard) : Type 0 where
   pub g : Guard
@@ -53,6 +55,19 @@ pub data Sending (octets check : ℕ) (buffer : List ℕ) : ℕ → List ℕ →
       → PassageFrom octets check buffer cursor wrote more h
       → (cursor' : ℕ) → GivesUp h cursor'
       → Sending octets check buffer cursor' kept asked
+  leaked : {cursor : ℕ} {kept wrote : List ℕ} {asked more : ℕ} {h : Guard}
+      → Sending octets check buffer cursor kept asked
+      → PassageFrom octets check buffer cursor wrote more h
+      → (cursor' : ℕ) → Leaks h cursor'
+      → Sending octets check buffer cursor' kept asked
+
+-- what each confirmed passage of a sending was asked for, in their order
+abbrev pub asked_each : {octets check : ℕ} {buffer : List ℕ} {cursor : ℕ} {kept : List ℕ}
+    → {asked : ℕ} → Sending octets check buffer cursor kept asked → List ℕ
+asked_each (made s m) = []
+asked_each (confirmed {more} sending p cursor' c) = asked_each sending ++ more ∷ []
+asked_each (given_up sending p cursor' g) = asked_each sending
+asked_each (leaked sending p cursor' l) = asked_each sending
 
 -- The confirmed octets are as many as the confirmed passages were asked for, they are the buffer's
 -- octets in rounds, and the sender stands behind them.

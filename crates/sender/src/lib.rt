@@ -1,12 +1,10 @@
-// A sender hands a block's buffer on in pieces, round after round, and takes back what was not
+// A sender hands a block's buffer on in pieces, round after round, and moves only by those that are
 // confirmed.
 #![tactic(auto)]
 
 mod passages;
 mod senders;
 mod sendings;
-#[cfg(test)]
-mod tests;
 
 pub use passages::{Passage, PassageRefusal};
 pub use senders::Sender;

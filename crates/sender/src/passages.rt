@@ -1,5 +1,5 @@
-// Passages: one begins, copies the next octets, and its end keeps the new standing or puts the old
-// one back.
+// Passages: one begins, copies the next octets, and is confirmed or given up. Only a confirmed one
+// moves its sender.
 ghost use Rattle.std.specs.Prelude.{◌≡◌, ◌+◌, ◌%◌, ◌<◌, length};
 ghost use Rattle.sender.specs.Passages.{Begins, Confirms, Copies, GivesUp, held, passage_case};
 ghost use Rattle.sender.specs.Passages.{sent};
@@ -24,11 +24,12 @@ impl PassageRefusal {
     }
 }
 
-// A piece that is being sent: a guard over a sender's cursor. Its end puts the cursor back, unless
-// it was confirmed.
+// A piece that is being sent: a guard over a sender's cursor. Copies move the passage's own
+// standing, confirming moves the cursor there, and any other end writes back what the cursor was.
 pub struct Passage<'a> {
     cursor: &'a mut usize,
     before: usize,
+    standing: usize,
     round: usize,
 }
 
@@ -42,6 +43,7 @@ impl Drop for Passage<'_> {
         let Self {
             cursor: _,
             before: _,
+            standing: _,
             round: _,
         } = self;
     }
@@ -72,12 +74,14 @@ impl<'a> Passage<'a> {
         Passage {
             cursor,
             before,
+            standing: before,
             round,
         }
     }
 
-    // `count` stands beside the target, so that a count above a round and a target that is too
-    // short are told apart.
+    // Copies the next octets to the target's front; the sender stays where it is. `count` stands
+    // beside the target, so that a count above a round and a target that is too short are told
+    // apart.
     pub fn copy(
         &mut self,
         buffer: &[u8],
@@ -94,8 +98,7 @@ impl<'a> Passage<'a> {
         if buffer.len() < self.round || target.len() < count {
             return Err(PassageRefusal::Short);
         }
-        let start = *self.cursor;
-        *self.cursor = copy_round(&buffer[..self.round], start, &mut target[..count]);
+        self.standing = copy_round(&buffer[..self.round], self.standing, &mut target[..count]);
         Ok(())
     }
 
@@ -106,15 +109,17 @@ impl<'a> Passage<'a> {
         let _given_up = self;
     }
 
-    // Keeps the new standing.
+    // Moves the sender behind the last octet that was copied.
     pub fn confirm(self)
         ensures { Confirms (held self.entry) self.exit.0.now }
     {
+        *self.cursor = self.standing;
         // Each field is named, since `..` would let the passage go, which puts the old standing
         // back.
         let Self {
             cursor: _,
             before: _,
+            standing: _,
             round: _,
         } = self;
     }

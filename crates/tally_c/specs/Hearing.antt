@@ -1,18 +1,18 @@
 -- Naming the nearest message in one call, and what C is told of it. Assumes nothing.
-use Rattle.std.specs.Prelude.{◌≡◌, ℕ, ◌*◌, ◌≤◌, false, cond, List, [], ◌∷◌, ◌++◌, length}
-use Rattle.std.specs.Prelude.{is_some, Some, Option, Result, MatchResult, nat_le, nat_lt}
-use Rattle.block.specs.Refusals.{Case, Check, Performs, if_refuse}
-use Rattle.block.specs.Sizes.{most_places, most_steps, size_checks}
+use Rattle.std.specs.Prelude.{◌≡◌, ℕ, false, cond, List, ◌++◌, length, replicate, Some, None}
+use Rattle.std.specs.Prelude.{Option, Result, MatchResult}
+use Rattle.block.specs.Refusals.{Case, Check, Performs}
+use Rattle.block.specs.Sizes.{most_places, most_steps}
 use Rattle.code.specs.Calls.{order_case, order_checks}
 use Rattle.code.specs.Shapes.{Shape, block_length, places}
 use Rattle.weighing.specs.Alphabets.{Alphabet}
 use Rattle.weighing.specs.Scales.{Scale}
-use Rattle.search.specs.Found.{find_case}
-use Rattle.search.specs.Scratch.{Scratch}
+use Rattle.search.specs.Found.{find_case, find_checks}
+use Rattle.search.specs.Scratch.{Scratch, scratch_of}
 use Rattle.search.specs.Weights.{Sums}
 use Rattle.search.specs.declared.Entry.{Entry}
 use Rattle.sheet.specs.Books.{book_after, book_sums, empty, taking, unlawful}
-use Rattle.sheet.specs.Calls.{NamesNearest, open_case, take_case, count_refused}
+use Rattle.sheet.specs.Calls.{NamesNearest, open_case, open_checks, take_case, take_checks}
 use Rattle.sheet.specs.declared.answers.Decoded.{Decoded}
 use Rattle.sheet.specs.declared.answers.Verdict.TheVariants.{Fits, DoesNotFit}
 use Rattle.sheet.specs.declared.refusals.TakeRefusal.TheVariants.{Symbol}
@@ -36,39 +36,32 @@ symbol_index (Open e) = 0
 symbol_index (Take e) = 0
 symbol_index (Find e) = 0
 
--- buffers that are long enough for the longest block
-pub record Ample {V : Type 0} (tally : List (Entry V)) (scratch : Scratch V) : Type 0 where
-  pub places : most_places ≤ length tally
-  pub survivors : most_steps ≤ length scratch.survivors
-  pub paths : 32 ≤ length scratch.paths
+-- the scratch that each call keeps for itself, long enough for the longest block
+abbrev pub own_scratch : Scratch ℕ
+own_scratch = scratch_of (replicate most_steps 0) (replicate 32 None)
 
 module _ {A V : Type 0} (a : Alphabet A V) where
-  -- in their order: the start, how many symbols come, the symbols themselves, and room for the
-  -- block
-  abbrev pub symbol_checks : ℕ → ℕ → List ℕ → ℕ → List Check
-  symbol_checks n start symbols room =
-      if_refuse (nat_le (4 * n) start) 7
-      ∷ if_refuse (count_refused n (length symbols)) 8
-      ∷ if_refuse (is_some (unlawful a symbols)) 9
-      ∷ if_refuse (nat_lt room n) 6
-      ∷ []
-
-  -- the column order is tested first, then the size, and then what came
-  abbrev pub hear_checks : Shape → ℕ → List ℕ → ℕ → List Check
-  hear_checks shape start symbols room =
+  -- The column order is tested first, and then all that the calls of a sheet test: its opening over
+  -- so many entries, the take, which is its first, and the decode.
+  abbrev pub hear_checks : Shape → ℕ → List ℕ → (entries room : ℕ) → Scratch V → List Check
+  hear_checks shape start symbols entries room scratch =
+      let n = block_length shape in
       order_checks shape.order
-      ++ (size_checks shape.octets shape.check
-      ++ symbol_checks (block_length shape) start symbols room)
+      ++ (open_checks shape entries
+      ++ (take_checks a n entries 0 start symbols ++ find_checks n entries room scratch))
 
   module _ (s : Scale V) (shape : Shape) (start : ℕ) (symbols : List ℕ) where
     -- the sums by the book of a sheet that takes these symbols alone
     abbrev pub heard_sums : Sums s
     heard_sums = book_sums a s (places shape) (book_after empty (taking start symbols))
 
-    -- Hearing symbols from an octet on: by that book the message that is named is nearest.
-    abbrev pub Hears : List ℕ → List ℕ → Result (Decoded V) HearRefusal → Type 0
-    Hears target target' r =
-        Performs (hear_checks shape start symbols (length target)) (hear_case (unlawful a symbols))
+    -- Hearing symbols from an octet on, over lent buffers: by that book the message that is named
+    -- is nearest.
+    abbrev pub Hears : List (Entry V) → Scratch V → List ℕ → List ℕ
+        → Result (Decoded V) HearRefusal → Type 0
+    Hears tally scratch target target' r =
+        Performs (hear_checks shape start symbols (length tally) (length target) scratch)
+        (hear_case (unlawful a symbols))
         (NamesNearest s shape heard_sums target target') (target' ≡ target) r
 
 -- what C is told of a decode: its weight, and its verdict as a truth value
@@ -103,11 +96,13 @@ pub record WithRefusal {A V : Type 0} (a : Alphabet A V) (symbols : List ℕ) (h
   pub no_weight : heard.weight ≡ 0
   pub no_verdict : heard.check_fits ≡ false
 
--- What C is told, and what the target then holds.
+-- What C is told, and what the target then holds. The call's own tally has an entry for each place
+-- of the longest block.
 abbrev pub TellsHeard : {A : Type 0} → Alphabet A ℕ → Scale ℕ → Shape → ℕ → List ℕ → List ℕ → List ℕ
     → TallyHeard → Type 0
 TellsHeard a s shape start symbols target target' heard =
-    Numbered (hear_checks a shape start symbols (length target)) heard.refusal
+    Numbered (hear_checks a shape start symbols most_places (length target) own_scratch)
+    heard.refusal
     ((heard.index ≡ 0)
     × NamesNearest s shape (heard_sums a s shape start symbols) target target' (told_decode heard))
     (WithRefusal a symbols heard × (target' ≡ target))

@@ -1,6 +1,6 @@
 // Encoding a report, and handing its buffer on.
 ghost use Rattle.code.specs.Calls.{encode_case};
-ghost use Rattle.sender.specs.Passages.{passage_case, round_of};
+ghost use Rattle.sender.specs.Passages.{passage_case};
 ghost use Rattle.tally_c.specs.Coding.{Sends, TellsEncoded, TellsSent};
 ghost use Rattle.tally_c.specs.Numbers.{Numbers};
 
@@ -38,8 +38,8 @@ fn send(
     target: &mut [u8],
     count: usize,
 ) -> Result<(), PassageRefusal>
-    ensures { Sends cursor.old cursor.new buffer.now target.old target.new count
-        (round_of size.octets size.check) result }
+    ensures { Sends size.octets size.check cursor.old cursor.new
+        buffer.now target.old target.new count result }
 {
     let mut passage = Passage::begin(size, cursor);
     passage.copy(buffer, target, count)?;
@@ -68,8 +68,8 @@ pub extern "C" fn tally_payload(
     target: &mut [u8],
     count: usize,
 ) -> u8
-    ensures { TellsSent cursor.old cursor.new buffer.now target.old target.new count
-        octets check result }
+    ensures { TellsSent octets check cursor.old cursor.new
+        buffer.now target.old target.new count result }
 {
     match Size::new(octets, check) {
         Ok(size) => passage_number(send(size, cursor, buffer, target, count)),

@@ -4,7 +4,7 @@ ghost use Rattle.weighing.specs.Hard.{hard_alphabet};
 ghost use Rattle.weighing.specs.Levels.{level_alphabet};
 ghost use Rattle.weighing.specs.Scales.{counted, largest};
 ghost use Rattle.search.specs.Scratch.{contents};
-ghost use Rattle.tally_c.specs.Hearing.{Ample, Hears, ShowsHeard, TellsHeard};
+ghost use Rattle.tally_c.specs.Hearing.{Hears, ShowsHeard, TellsHeard};
 
 use crate::TallyHeard;
 use crate::refusals::HearRefusal;
@@ -30,10 +30,9 @@ fn hear<R: Reading>(
     tally: &mut [Entry<R::Value>],
     scratch: &mut Scratch<'_, R::Value>,
 ) -> Result<Decoded<R::Value>, HearRefusal>
-    requires { Ample tally.old (contents scratch.old) }
     ensures { Hears R.Reading.alphabet R.Weighing.scale
         (record { octets = octets; check = check; order = columns.now })
-        start symbols.now target.old target.new result }
+        start symbols.now tally.old (contents scratch.old) target.old target.new result }
 {
     let order = Order::new(columns).map_err(HearRefusal::Order)?;
     let mut sheet = Sheet::<R>::open(octets, check, order, tally).map_err(HearRefusal::Open)?;

@@ -1,69 +1,78 @@
 // Random blocks: every length of a report with every length of a check, at all rates and by all
 // readings.
-use crate::family::{Family, Findings, Outcome};
-use crate::frame::{CHECKS, Frame};
-use crate::random::Random;
-use crate::second::readings::Kind;
-use crate::trial::{Made, Trial, draw_columns};
+use crate::frame::Frame;
+use crate::hearing::Hearing;
+use crate::second::family::{Family, Outcome, differing};
+use crate::second::random::Random;
+use crate::second::sizes::{CHECKS, Sizes};
+use crate::trial::Trial;
 use crate::tried::Tried;
 use std::alloc::Global;
 use weighing::hard::Hard;
 use weighing::soft::Soft;
 use weighing::worst::Worst;
 
-// Sends a report, and compares what its decode answers.
-fn hear<R: Tried>(frame: &Frame, random: &mut Random, trial: Trial) -> anyhow::Result<Findings> {
-    let mut findings = Findings::none();
-    let mut hearing = trial.hear::<R>(frame, random, &mut findings)?;
-    let _weight = hearing.expect_decode(&mut findings)?;
-    Ok(findings)
+// Sends a report, and compares what its decode answers, also with the least of all messages where
+// there are few.
+fn hear<R: Tried>(
+    hearing: &mut Hearing<'_, R>,
+    random: &mut Random,
+    trial: Trial,
+    are_few: bool,
+) -> Option<&'static str> {
+    let differs = trial.hear(hearing, random);
+    let compared = hearing.compared();
+    let least = if are_few {
+        hearing.heard().least().weight
+    } else {
+        compared.named.weight
+    };
+    let is_least = least == compared.named.weight;
+    differs.or(compared.differs).or(differing(&[("the least weight of all messages", is_least)]))
 }
 
-// Sends a report that is heard by a reading of this kind.
-fn hear_by_kind(
+// A block of this frame, heard by one reading.
+pub(crate) fn try_block<R: Tried>(
+    family: &mut Family,
     frame: &Frame,
     random: &mut Random,
-    kind: Kind,
-    trial: Trial,
-) -> anyhow::Result<Findings> {
-    match kind {
-        Kind::Hard => hear::<Hard>(frame, random, trial),
-        Kind::Soft => hear::<Soft>(frame, random, trial),
-        Kind::Worst => hear::<Worst>(frame, random, trial),
-    }
-}
-
-// A block of this size. The rates take turns, and with each round of them the readings.
-fn try_block(
-    family: &mut Family<'_>,
-    heap: Global,
-    random: &mut Random,
-    octets: usize,
-    check: usize,
-    turn: usize,
+    k: usize,
+    are_few: bool,
 ) -> anyhow::Result<()> {
-    let frame = Frame::new(heap, octets, check, &draw_columns(random))?;
-    let kind = match turn / 25 % 3 {
-        0 => Kind::Hard,
-        1 => Kind::Soft,
-        _ => Kind::Worst,
-    };
-    let trial = Trial::draw(random, turn % 25);
-    let findings = hear_by_kind(&frame, random, kind, trial)?;
-    let sizes = frame.sizes;
-    family.case(Made { sizes, kind, trial }, findings)?;
+    let trial = Trial::draw(random, k);
+    let mut hearing = Hearing::<R>::open(frame)?;
+    let differs = hear(&mut hearing, random, trial, are_few);
+    family.case(trial.case(frame.sizes, R::kind()), differs);
     Ok(())
 }
 
+// The rates take turns, and with each round of them the readings.
+fn try_turn(
+    family: &mut Family,
+    heap: Global,
+    random: &mut Random,
+    sizes: Sizes,
+    turn: usize,
+) -> anyhow::Result<()> {
+    let frame = Frame::draw(heap, random, sizes)?;
+    let k = turn % 25;
+    match turn / 25 % 3 {
+        0 => try_block::<Hard>(family, &frame, random, k, false),
+        1 => try_block::<Soft>(family, &frame, random, k, false),
+        _ => try_block::<Worst>(family, &frame, random, k, false),
+    }
+}
+
 pub(crate) fn run(rt: &HostRuntime) -> anyhow::Result<Outcome> {
-    let mut family = Family::begin(rt, "random blocks");
+    let mut family = Family::begin("random blocks");
     let mut random = Random(20);
     let mut turn = 0usize;
     for octets in 1..=512 {
         for check in CHECKS {
-            try_block(&mut family, rt.alloc(), &mut random, octets, check, turn)?;
+            let sizes = Sizes::of(octets, check);
+            try_turn(&mut family, rt.alloc(), &mut random, sizes, turn)?;
             turn = turn.wrapping_add(1);
         }
     }
-    Ok(family.end()?)
+    Ok(family.end(rt)?)
 }

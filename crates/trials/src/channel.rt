@@ -1,10 +1,10 @@
 // Bad channels: what is heard in place of each bit.
-use crate::random::Random;
+use crate::second::random::Random;
 use crate::second::readings::Kind;
-use std::alloc::{AllocError, Global};
+use std::alloc::Global;
 
 // How a channel damages what goes through it.
-#[derive(Clone, Copy, Debug)]
+#[derive(Clone, Copy)]
 pub(crate) enum Damage {
     Clean,
     FewTurned,
@@ -37,6 +37,19 @@ enum Heard {
 }
 
 impl Damage {
+    pub(crate) fn word(self) -> &'static str {
+        match self {
+            Damage::Clean => "clean",
+            Damage::FewTurned => "few turned",
+            Damage::ManyTurned => "many turned",
+            Damage::Missing => "missing",
+            Damage::Bursts => "bursts",
+            Damage::Noise => "noise",
+            Damage::Chance => "chance",
+            Damage::AllTurned => "all turned",
+        }
+    }
+
     // How the bit at an index of a take is heard.
     fn draw(self, random: &mut Random, index: usize) -> Heard {
         let draw = random.octet();
@@ -93,11 +106,11 @@ pub(crate) fn hear(
     kind: Kind,
     bits: &[bool],
     damage: Damage,
-) -> Result<Vec<u8>, AllocError> {
-    let mut octets = Vec::with_capacity(heap, bits.len())?;
+) -> Vec<u8> {
+    let mut octets = Vec::new(heap);
     for (index, bit) in bits.iter().enumerate() {
         let heard = damage.draw(random, index);
-        octets.push(symbol_of(random, kind, *bit, heard))?;
+        let _pushed = octets.push(symbol_of(random, kind, *bit, heard));
     }
-    Ok(octets)
+    octets
 }

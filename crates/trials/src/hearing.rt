@@ -1,175 +1,143 @@
 // A sheet with its tally and what a decode is lent, and beside it the second decoder's book of the
 // same takes.
-use crate::buffers::Buffers;
-use crate::family::Findings;
 use crate::frame::Frame;
-use crate::second::all::{Least, least_of_all};
-use crate::second::book::{Book, Sums};
-use crate::second::coder::{Coded, bits_of};
-use crate::second::division::divides;
-use crate::second::nearest::{StepSums, by_steps, find_nearest, weight_of};
+use crate::lent::{Lengths, Lent};
+use crate::second::book::Book;
+use crate::second::family::{Fact, differing};
+use crate::second::heard::{Found, Heard};
+use crate::summed::Summed;
 use crate::tried::Tried;
-use search::Entry;
-use sheet::{Sheet, TakeRefusal, Taken, Verdict};
+use sheet::{OpenRefusal, Taken, Verdict};
 
 #[derive(Drop)]
 pub(crate) struct Hearing<'a, R: Tried> {
     pub(crate) frame: &'a Frame,
-    pub(crate) sheet: Sheet<R>,
-    pub(crate) tally: Vec<Entry<R::Value>>,
-    pub(crate) book: Book,
-    pub(crate) target: Vec<u8>,
-    buffers: Buffers<R::Value>,
+    summed: Summed<R>,
+    lent: Lent<R>,
+    book: Book,
 }
 
-// What a decode answered, and the octets that it named.
-#[derive(Drop)]
+// What a decode answered. A refused one names a weight that no message has.
+#[derive(Clone, Copy)]
 pub(crate) struct Named {
     pub(crate) weight: u64,
     pub(crate) check_fits: bool,
-    pub(crate) octets: Vec<u8>,
+}
+
+// A decode that was compared with the second decoder: what it answered, and in what it differs, if
+// in anything.
+#[derive(Clone, Copy)]
+pub(crate) struct Compared {
+    pub(crate) named: Named,
+    pub(crate) differs: Option<&'static str>,
+}
+
+// What the second search should have found, where the weight answered is this one. Its own message
+// has to weigh what it says.
+fn search_facts(found: Option<Found>, weight: u64) -> [Fact; 3] {
+    match found {
+        Some(found) => [
+            ("the least weight", found.weight == weight),
+            ("the tail of the second search", found.judged.fits.tail),
+            (
+                "the weight of the second search",
+                found.judged.weight == found.weight,
+            ),
+        ],
+        None => [("the end of the second search", false); 3],
+    }
 }
 
 impl<'a, R: Tried> Hearing<'a, R> {
-    pub(crate) fn open(frame: &'a Frame) -> anyhow::Result<Hearing<'a, R>> {
+    pub(crate) fn open(frame: &'a Frame) -> Result<Hearing<'a, R>, OpenRefusal> {
         let heap = frame.heap;
         let sizes = frame.sizes;
-        let entry = Entry {
-            zero: R::weight(3),
-            one: R::weight(5),
-        };
-        let mut tally = vec![in heap; entry; sizes.places()]?;
-        let sheet = Sheet::<R>::open(sizes.octets, sizes.check, frame.order, tally.as_mut_slice())?;
         Ok(Hearing {
             frame,
-            sheet,
-            tally,
+            summed: Summed::open(heap, sizes, frame.order, sizes.places())?,
+            lent: Lent::marked(heap, Lengths::needed(sizes)),
             book: Book::new(heap, R::kind(), sizes.places()),
-            target: vec![in heap; 0u8; sizes.block]?,
-            buffers: Buffers::new(heap, sizes)?,
         })
     }
 
-    // Takes symbols on the sheet and in the book, and answers whether both have the same count.
-    pub(crate) fn take(&mut self, start: usize, octets: &[u8]) -> anyhow::Result<bool> {
-        let taken = self.sheet.take(self.tally.as_mut_slice(), start, octets)?;
-        self.book.note(start, octets)?;
-        Ok(taken.total == self.book.count)
+    // Takes symbols on the sheet and in the book, and answers whether the take was performed and
+    // both have the same count.
+    pub(crate) fn take(&mut self, start: usize, octets: &[u8]) -> bool {
+        let taken = self.summed.take(start, octets);
+        self.book.note(start, octets);
+        let total = self.book.count;
+        taken == Ok(Taken { total })
     }
 
-    // A take that may be refused; the book does not note it.
-    pub(crate) fn offer(&mut self, start: usize, octets: &[u8]) -> Result<Taken, TakeRefusal> {
-        self.sheet.take(self.tally.as_mut_slice(), start, octets)
-    }
-
-    pub(crate) fn wipe(&mut self) -> anyhow::Result<()> {
-        self.sheet.wipe(self.tally.as_mut_slice())?;
+    // Answers whether the wipe was performed.
+    pub(crate) fn wipe(&mut self) -> bool {
         self.book.wipe();
-        Ok(())
+        let tally = self.summed.tally.as_mut_slice();
+        self.summed.sheet.wipe(tally).is_ok()
     }
 
-    pub(crate) fn decode(&mut self) -> anyhow::Result<Named> {
-        let decoded = self.sheet.decode(
-            self.tally.as_slice(),
-            self.target.as_mut_slice(),
-            &mut self.buffers.lend(),
-        )?;
-        Ok(Named {
-            weight: R::number(decoded.weight),
-            check_fits: decoded.verdict == Verdict::Fits,
-            octets: self.target.clone()?,
-        })
+    pub(crate) fn decode(&mut self) -> Named {
+        match self
+            .lent
+            .decode(&self.summed.sheet, self.summed.tally.as_slice())
+        {
+            Ok(decoded) => Named {
+                weight: R::number(decoded.weight),
+                check_fits: decoded.verdict == Verdict::Fits,
+            },
+            Err(_) => Named {
+                weight: u64::MAX,
+                check_fits: false,
+            },
+        }
     }
 
-    // The book's sums, by steps.
-    pub(crate) fn steps(&self) -> anyhow::Result<Vec<StepSums>> {
-        let sums = self.book.sums()?;
-        let steps = by_steps(
+    // The octets that the last decode named.
+    pub(crate) fn octets(&self) -> &[u8] {
+        self.lent.target.as_slice()
+    }
+
+    // What the second decoder makes of the book.
+    pub(crate) fn heard(&self) -> Heard {
+        let sums = self.book.sums();
+        Heard::of(
             self.frame.heap,
+            R::kind(),
+            self.frame.sizes,
             sums.as_slice(),
             self.frame.sources.as_slice(),
-        )?;
-        Ok(steps)
-    }
-
-    // The least weight of all messages, by trying each.
-    pub(crate) fn least(&self) -> anyhow::Result<Least> {
-        Ok(least_of_all(R::kind(), self.steps()?.as_slice()))
+        )
     }
 
     // Whether each entry of the tally is the book's sums.
-    fn tally_is(&self, sums: &[Sums]) -> bool {
-        self.tally.iter().zip(sums).all(|(entry, sums)| {
-            R::number(entry.zero) == sums.zero && R::number(entry.one) == sums.one
-        })
+    fn tally_is_due(&self) -> bool {
+        self.summed.has_sums(self.book.sums().as_slice())
     }
 
-    // Compares a message that was named with what the second decoder knows of it.
-    fn expect_named(
-        &self,
-        findings: &mut Findings,
-        named: &Named,
-        steps: &[StepSums],
-    ) -> anyhow::Result<()> {
-        let heap = self.frame.heap;
-        let bits = bits_of(heap, named.octets.as_slice())?;
-        let message: Vec<bool> = bits
-            .iter()
-            .copied()
-            .take(self.frame.sizes.message())
-            .collect(heap)?;
-        let coded = Coded::of(heap, message.as_slice())?;
-        findings.expect("the tail", coded.inputs.as_slice() == bits.as_slice());
-        let weight = weight_of(R::kind(), steps, coded.outputs.as_slice());
-        findings.expect("the weight of the message named", weight == named.weight);
-        let fits = divides(heap, message.as_slice(), self.frame.sizes.check)?;
-        findings.expect("the verdict on the check", fits == named.check_fits);
-        Ok(())
+    // In what the last decode differs from what the second decoder makes of it.
+    fn compare(&self, named: Named) -> Option<&'static str> {
+        let heard = self.heard();
+        let judged = heard.judge(self.octets());
+        let found = heard.find();
+        differing(&[
+            ("the tail", judged.fits.tail),
+            (
+                "the weight of the message named",
+                judged.weight == named.weight,
+            ),
+            (
+                "the verdict on the check",
+                judged.fits.check == named.check_fits,
+            ),
+        ])
+        .or(differing(&search_facts(found, named.weight)))
     }
 
-    // Compares the least weight with that of the second search, whose own message has to weigh what
-    // it says.
-    fn expect_least(
-        &self,
-        findings: &mut Findings,
-        named: &Named,
-        steps: &[StepSums],
-    ) -> anyhow::Result<()> {
-        let heap = self.frame.heap;
-        let Some(nearest) = find_nearest(heap, R::kind(), steps)? else {
-            findings.expect("the end of the second search", false);
-            return Ok(());
-        };
-        findings.expect("the least weight", nearest.weight == named.weight);
-        let message: Vec<bool> = nearest
-            .bits
-            .iter()
-            .copied()
-            .take(self.frame.sizes.message())
-            .collect(heap)?;
-        let coded = Coded::of(heap, message.as_slice())?;
-        findings.expect(
-            "the tail of the second search",
-            coded.inputs.as_slice() == nearest.bits.as_slice(),
-        );
-        let weight = weight_of(R::kind(), steps, coded.outputs.as_slice());
-        findings.expect("the weight of the second search", weight == nearest.weight);
-        Ok(())
-    }
-
-    // Decodes, and compares the tally and all that is answered with the second decoder. Answers the
-    // weight.
-    pub(crate) fn expect_decode(&mut self, findings: &mut Findings) -> anyhow::Result<u64> {
-        let sums = self.book.sums()?;
-        findings.expect("the tally", self.tally_is(sums.as_slice()));
-        let named = self.decode()?;
-        let steps = by_steps(
-            self.frame.heap,
-            sums.as_slice(),
-            self.frame.sources.as_slice(),
-        )?;
-        self.expect_named(findings, &named, steps.as_slice())?;
-        self.expect_least(findings, &named, steps.as_slice())?;
-        Ok(named.weight)
+    // Decodes, and compares the tally and all that is answered with the second decoder.
+    pub(crate) fn compared(&mut self) -> Compared {
+        let tally = self.tally_is_due();
+        let named = self.decode();
+        let differs = differing(&[("the tally", tally)]).or(self.compare(named));
+        Compared { named, differs }
     }
 }

@@ -1,22 +1,38 @@
 // Senders: passages of chance over a buffer, confirmed or not, against a plain list of octets.
-use crate::family::{Family, Findings, Outcome};
-use crate::frame::Sizes;
-use crate::pattern::{begins_with, is_marked, marked};
-use crate::random::Random;
+use crate::second::family::{Case, Family, Outcome, differing};
+use crate::second::pattern::{begins_with, is_marked, marked};
+use crate::second::random::Random;
+use crate::second::sizes::{CHECKS, Sizes};
+use block::SizeRefusal;
 use sender::{Passage, PassageRefusal, Sender};
 use std::alloc::Global;
-use std::fmt;
 
 // How a passage ends.
-#[derive(Clone, Copy, Debug, PartialEq)]
-enum Ending {
+#[derive(Clone, Copy, PartialEq)]
+pub(crate) enum Ending {
     Confirmed,
     GivenUp,
     LetGo,
 }
 
 impl Ending {
-    fn end(self, passage: Passage<'_>) {
+    fn draw(random: &mut Random) -> Ending {
+        match random.below(4) {
+            0 => Ending::GivenUp,
+            1 => Ending::LetGo,
+            _ => Ending::Confirmed,
+        }
+    }
+
+    pub(crate) fn word(self) -> &'static str {
+        match self {
+            Ending::Confirmed => "confirmed",
+            Ending::GivenUp => "given up",
+            Ending::LetGo => "let go",
+        }
+    }
+
+    pub(crate) fn end(self, passage: Passage<'_>) {
         match self {
             Ending::Confirmed => passage.confirm(),
             Ending::GivenUp => passage.give_up(),
@@ -46,6 +62,40 @@ impl Request {
             None
         }
     }
+
+    // A copy of chance: most are performed, and some are refused.
+    fn draw(random: &mut Random, round: usize) -> Request {
+        let count = match random.below(12) {
+            0 => 0,
+            1 => round,
+            2 => round.saturating_add(1),
+            3 => random.next() as usize,
+            _ => random.below(round.min(40)).saturating_add(1),
+        };
+        let buffer = match random.below(8) {
+            0 => round.saturating_sub(1),
+            1 => round,
+            _ => round.saturating_add(8),
+        };
+        let room = count.min(round.saturating_add(2));
+        let target = match random.below(8) {
+            0 => room.saturating_sub(1),
+            1 => room.saturating_add(5),
+            _ => room,
+        };
+        Request {
+            count,
+            buffer,
+            target,
+        }
+    }
+}
+
+// What came of a copy: in what it differs, if in anything, and the octets that are due.
+#[derive(Drop)]
+pub(crate) struct Copied {
+    pub(crate) differs: Option<&'static str>,
+    due: Vec<u8>,
 }
 
 // A buffer, where the sender stands, and the octets of all confirmed passages.
@@ -60,126 +110,106 @@ pub(crate) struct Model {
 
 impl Model {
     // The buffer has eight octets more than a round.
-    pub(crate) fn new(heap: Global, random: &mut Random, sizes: Sizes) -> anyhow::Result<Model> {
+    pub(crate) fn new(heap: Global, random: &mut Random, sizes: Sizes, standing: usize) -> Model {
         let round = sizes.round();
-        let buffer = (0..round.saturating_add(8))
-            .map(|_| random.octet())
-            .collect(heap)?;
-        Ok(Model {
+        Model {
             heap,
             round,
-            buffer,
-            standing: 0,
+            buffer: random.octets(heap, round.saturating_add(8)),
+            standing,
             confirmed: Vec::new(heap),
-        })
+        }
     }
 
-    // The octets that come when the sender stands at an octet.
-    fn next(&self, at: usize, count: usize) -> anyhow::Result<Vec<u8>> {
-        let round = self.buffer.iter().take(self.round);
-        let octets = round
-            .clone()?
-            .skip(at)
-            .chain(round)
-            .take(count)
-            .copied()
-            .collect(self.heap)?;
-        Ok(octets)
+    // The octet so many behind the standing, over the end if need be.
+    fn behind(&self, count: usize) -> usize {
+        let octet = self.standing.saturating_add(count);
+        octet.checked_rem(self.round).unwrap_or(0)
     }
 
-    // Asks a passage for a copy, with the sender at an octet, and answers the octets that are due,
-    // if any.
+    // The octets that are due of a copy from an octet on: none where it is refused.
+    fn due(&self, at: usize, request: Request) -> Vec<u8> {
+        if request.refused(self.round).is_some() {
+            return Vec::new(self.heap);
+        }
+        let round = self.buffer.get(..self.round).unwrap_or(&[]);
+        let mut octets = round
+            .get(at..)
+            .unwrap_or(&[])
+            .to_vec(self.heap)
+            .unwrap_or(Vec::new(self.heap));
+        let _extended = octets.extend_from_slice(round);
+        octets.truncate(request.count);
+        octets
+    }
+
+    // Asks a passage for a copy, so many octets behind the standing.
     pub(crate) fn copy(
         &self,
         passage: &mut Passage<'_>,
-        at: usize,
+        before: usize,
         request: Request,
-        findings: &mut Findings,
-    ) -> anyhow::Result<Vec<u8>> {
+    ) -> Copied {
+        let due = self.due(self.behind(before), request);
+        let mut target = marked(self.heap, request.target);
         let lent = self.buffer.as_slice();
         let lent = lent.get(..request.buffer).unwrap_or(lent);
-        let mut target = marked(self.heap, request.target)?;
         let found = passage.copy(lent, target.as_mut_slice(), request.count);
         let refused = found.err().map(|refusal| refusal.number());
-        findings.expect("the refusal", refused == request.refused(self.round));
-        let due = match refused {
-            None => self.next(at, request.count)?,
-            Some(_) => Vec::new(self.heap),
+        let differs = differing(&[
+            ("the refusal", refused == request.refused(self.round)),
+            ("the octets", begins_with(target.as_slice(), due.as_slice())),
+            ("what lies behind", is_marked(target.as_slice(), due.len())),
+        ]);
+        Copied { differs, due }
+    }
+
+    // Asks a passage for some copies, one behind the other.
+    fn copies(&self, passage: &mut Passage<'_>, requests: &[Request]) -> Copied {
+        let mut all = Copied {
+            differs: None,
+            due: Vec::new(self.heap),
         };
-        findings.expect("the octets", begins_with(target.as_slice(), due.as_slice()));
-        findings.expect("what lies behind", is_marked(target.as_slice(), due.len()));
-        Ok(due)
-    }
-
-    // The octet behind so many, over the end if need be.
-    fn behind(&self, at: usize, count: usize) -> usize {
-        let end = at.saturating_add(count);
-        if end < self.round {
-            end
-        } else {
-            end.saturating_sub(self.round)
+        for request in requests {
+            let copied = self.copy(passage, all.due.len(), *request);
+            all.differs = all.differs.or(copied.differs);
+            let _extended = all.due.extend_from_slice(copied.due.as_slice());
         }
+        all
     }
 
-    // A passage of some copies that ends so.
+    fn confirm(&mut self, octets: &[u8]) {
+        self.standing = self.behind(octets.len());
+        let _extended = self.confirmed.extend_from_slice(octets);
+    }
+
+    // A passage of some copies that ends so; in what it differs, if in anything.
     fn pass(
         &mut self,
         sender: &mut Sender,
-        copies: &[Request],
+        requests: &[Request],
         ending: Ending,
-        findings: &mut Findings,
-    ) -> anyhow::Result<()> {
-        let mut octets: Vec<u8> = Vec::new(self.heap);
-        let mut at = self.standing;
-        let size = sender.size();
-        let mut passage = Passage::begin(size, &mut sender.cursor);
-        for request in copies {
-            let due = self.copy(&mut passage, at, *request, findings)?;
-            at = self.behind(at, due.len());
-            octets.extend_from_slice(due.as_slice())?;
-        }
+    ) -> Option<&'static str> {
+        let mut passage = Passage::begin(sender.size(), &mut sender.cursor);
+        let copied = self.copies(&mut passage, requests);
         ending.end(passage);
         if ending == Ending::Confirmed {
-            self.standing = at;
-            self.confirmed.extend_from_slice(octets.as_slice())?;
+            self.confirm(copied.due.as_slice());
         }
-        findings.expect("the standing", sender.standing() == self.standing);
-        findings.expect("the cursor", sender.cursor == self.standing);
-        Ok(())
+        copied.differs.or(differing(&[
+            ("the standing", sender.standing() == self.standing),
+            ("the cursor", sender.cursor == self.standing),
+        ]))
     }
 
     // Whether the confirmed octets are the buffer's, round after round.
     fn confirmed_in_rounds(&self) -> bool {
-        self.confirmed
-            .chunks(self.round.max(1))
-            .all(|chunk| begins_with(self.buffer.as_slice(), chunk))
-    }
-}
-
-// A copy of chance: most are performed, and some are refused.
-fn draw(random: &mut Random, round: usize) -> Request {
-    let count = match random.below(12) {
-        0 => 0,
-        1 => round,
-        2 => round.saturating_add(1),
-        3 => random.next() as usize,
-        _ => random.below(round.min(40)).saturating_add(1),
-    };
-    let buffer = match random.below(8) {
-        0 => round.saturating_sub(1),
-        1 => round,
-        _ => round.saturating_add(8),
-    };
-    let room = count.min(round.saturating_add(2));
-    let target = match random.below(8) {
-        0 => room.saturating_sub(1),
-        1 => room.saturating_add(5),
-        _ => room,
-    };
-    Request {
-        count,
-        buffer,
-        target,
+        for round in self.confirmed.chunks(self.round.max(1)) {
+            if !begins_with(self.buffer.as_slice(), round) {
+                return false;
+            }
+        }
+        true
     }
 }
 
@@ -192,86 +222,66 @@ fn two_copies(sender: &mut Sender, buffer: &[u8], target: &mut [u8]) -> Result<(
     Ok(())
 }
 
-// The passage of a sender, as its turn has it.
-#[derive(Clone, Copy)]
-struct Turn {
-    sizes: Sizes,
-    turn: usize,
-    ending: Ending,
-}
-
-impl fmt::Display for Turn {
-    fn fmt<W: fmt::Write>(&self, f: &mut fmt::Formatter<W>) -> fmt::Result {
-        let Turn {
-            sizes,
-            turn,
-            ending,
-        } = *self;
-        write!(f, "{sizes}, passage {turn}, {ending:?}")
-    }
-}
-
 // A passage of chance; after each, another is left by a refusal.
 fn try_passage(
     model: &mut Model,
     sender: &mut Sender,
     random: &mut Random,
     ending: Ending,
-) -> anyhow::Result<Findings> {
-    let mut findings = Findings::none();
-    let first = draw(random, model.round);
-    let copies = [first, draw(random, model.round), draw(random, model.round)];
-    model.pass(
-        sender,
-        &copies[..random.below(3) % 3 + 1],
-        ending,
-        &mut findings,
-    )?;
+) -> Option<&'static str> {
+    let round = model.round;
+    let first = Request::draw(random, round);
+    let second = Request::draw(random, round);
+    let requests = [first, second, Request::draw(random, round)];
+    let requests = &requests[..random.below(3) % 3 + 1];
+    let differs = model.pass(sender, requests, ending);
     let left = two_copies(sender, model.buffer.as_slice(), &mut [0; 8]);
-    findings.expect(
-        "the refusal on the way out",
-        left == Err(PassageRefusal::Count),
-    );
-    findings.expect("the standing after it", sender.standing() == model.standing);
-    Ok(findings)
+    let is_left = left == Err(PassageRefusal::Count);
+    differs.or(differing(&[
+        ("the refusal on the way out", is_left),
+        ("the standing after it", sender.standing() == model.standing),
+    ]))
 }
 
-// A sender of this size with many passages.
+// Many passages of a sender.
+fn try_passages(
+    family: &mut Family,
+    random: &mut Random,
+    sizes: Sizes,
+    model: &mut Model,
+    sender: &mut Sender,
+) {
+    for turn in 0..300 {
+        let ending = Ending::draw(random);
+        let case = Case {
+            words: ["passage", ending.word(), "", ""],
+            numbers: [sizes.octets, sizes.check, turn, 0],
+        };
+        family.case(case, try_passage(model, sender, random, ending));
+    }
+    family.facts(&[("the row of confirmed octets", model.confirmed_in_rounds())]);
+}
+
 fn try_sender(
-    family: &mut Family<'_>,
+    family: &mut Family,
     heap: Global,
     random: &mut Random,
-    octets: usize,
-    check: usize,
-) -> anyhow::Result<()> {
-    let sizes = Sizes::of(octets, check);
-    let mut model = Model::new(heap, random, sizes)?;
-    let mut sender = Sender::new(octets, check)?;
-    for turn in 0..300 {
-        let ending = match random.below(4) {
-            0 => Ending::GivenUp,
-            1 => Ending::LetGo,
-            _ => Ending::Confirmed,
-        };
-        let findings = try_passage(&mut model, &mut sender, random, ending)?;
-        let turn = Turn {
-            sizes,
-            turn,
-            ending,
-        };
-        family.case(turn, findings)?;
-    }
-    family.fact("the row of confirmed octets", model.confirmed_in_rounds())?;
+    sizes: Sizes,
+) -> Result<(), SizeRefusal> {
+    let mut sender = Sender::new(sizes.octets, sizes.check)?;
+    let mut model = Model::new(heap, random, sizes, 0);
+    try_passages(family, random, sizes, &mut model, &mut sender);
     Ok(())
 }
 
 pub(crate) fn run(rt: &HostRuntime) -> anyhow::Result<Outcome> {
-    let mut family = Family::begin(rt, "senders");
+    let mut family = Family::begin("senders");
     let mut random = Random(60);
     for octets in [1, 2, 3, 5, 13, 40, 100, 511, 512] {
-        for check in [4, 12, 20, 28] {
-            try_sender(&mut family, rt.alloc(), &mut random, octets, check)?;
+        for check in CHECKS {
+            let sizes = Sizes::of(octets, check);
+            try_sender(&mut family, rt.alloc(), &mut random, sizes)?;
         }
     }
-    Ok(family.end()?)
+    Ok(family.end(rt)?)
 }

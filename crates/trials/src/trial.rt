@@ -1,16 +1,17 @@
 // A trial: a report is coded by both coders, sent over a bad channel in some parts, and taken.
 use crate::channel::{DAMAGES, Damage, hear};
-use crate::family::Findings;
-use crate::frame::{Frame, ORDER_R, Sizes, backwards, shuffled};
+use crate::frame::Frame;
 use crate::hearing::Hearing;
-use crate::random::Random;
-use crate::second::coder::{Coded, bits_of, message_of};
+use crate::second::coder::{bits_of, buffer_of};
+use crate::second::family::{Case, differing};
+use crate::second::pattern::marked;
+use crate::second::random::Random;
 use crate::second::readings::Kind;
+use crate::second::sizes::Sizes;
 use crate::tried::Tried;
 use block::plan;
 use code::encode_report;
 use std::alloc::Global;
-use std::fmt;
 
 // A part of the buffer: its first octet and how many octets it has, over the buffer's end if need
 // be.
@@ -21,7 +22,7 @@ struct Part {
 }
 
 // How the parts of a report come.
-#[derive(Clone, Copy, Debug)]
+#[derive(Clone, Copy)]
 pub(crate) enum Coming {
     First,
     FirstTwice,
@@ -44,6 +45,21 @@ pub(crate) const COMINGS: [Coming; 8] = [
     Coming::AfterAWipe,
 ];
 
+impl Coming {
+    fn word(self) -> &'static str {
+        match self {
+            Coming::First => "first",
+            Coming::FirstTwice => "first twice",
+            Coming::FirstAndNext => "first and next",
+            Coming::FirstAndAll => "first and all",
+            Coming::OverTheEnd => "over the end",
+            Coming::Elsewhere => "elsewhere",
+            Coming::InPieces => "in pieces",
+            Coming::AfterAWipe => "after a wipe",
+        }
+    }
+}
+
 // What a trial is made of.
 #[derive(Clone, Copy)]
 pub(crate) struct Trial {
@@ -52,118 +68,66 @@ pub(crate) struct Trial {
     pub(crate) coming: Coming,
 }
 
-// A trial that was made.
-#[derive(Clone, Copy)]
-pub(crate) struct Made {
-    pub(crate) sizes: Sizes,
-    pub(crate) kind: Kind,
-    pub(crate) trial: Trial,
+// Whether the crates code a report into a buffer of these bits.
+fn codes_so(frame: &Frame, report: &[u8], bits: &[bool]) -> bool {
+    let heap = frame.heap;
+    let mut buffer = marked(heap, frame.sizes.round());
+    let check = frame.sizes.check;
+    let coded = encode_report(report, check, &frame.order, buffer.as_mut_slice());
+    coded.is_ok() && bits_of(heap, buffer.as_slice()).as_slice() == bits
 }
 
-impl fmt::Display for Made {
-    fn fmt<W: fmt::Write>(&self, f: &mut fmt::Formatter<W>) -> fmt::Result {
-        let sizes = self.sizes;
-        let kind = self.kind;
-        let Trial { k, damage, coming } = self.trial;
-        write!(f, "{sizes}, {kind:?}, k = {k}, {damage:?}, {coming:?}")
-    }
-}
-
-// The bits of a report's buffer, from which its parts are sent.
+// The bits of the buffer of a report of chance, and whether both coders agree on them.
 #[derive(Drop)]
 struct Sent {
     bits: Vec<bool>,
+    agree: bool,
 }
 
-impl Sent {
-    // Codes a report by both coders, and compares the buffers.
-    fn code(frame: &Frame, report: &[u8], findings: &mut Findings) -> anyhow::Result<Sent> {
-        let heap = frame.heap;
-        let mut buffer = vec![in heap; 0u8; frame.sizes.round()]?;
-        encode_report(
-            report,
-            frame.sizes.check,
-            &frame.order,
-            buffer.as_mut_slice(),
-        )?;
-        let message = message_of(heap, report, frame.sizes.check)?;
-        let second = Coded::of(heap, message.as_slice())?.buffer(heap, frame.sources.as_slice())?;
-        findings.expect("the buffer", buffer.as_slice() == second.as_slice());
-        Ok(Sent {
-            bits: bits_of(heap, second.as_slice())?,
-        })
-    }
+fn send(frame: &Frame, random: &mut Random) -> Sent {
+    let report = random.octets(frame.heap, frame.sizes.octets);
+    let report = report.as_slice();
+    let sources = frame.sources.as_slice();
+    let bits = buffer_of(frame.heap, report, frame.sizes.check, sources);
+    let agree = codes_so(frame, report, bits.as_slice());
+    Sent { bits, agree }
+}
 
-    // The bits of a part: those from its start on, and then those from the beginning.
-    fn part(&self, heap: Global, part: Part) -> anyhow::Result<Vec<bool>> {
-        let bits = self
-            .bits
-            .iter()
-            .skip(part.start.saturating_mul(8))
-            .chain(self.bits.iter())
-            .take(part.count.saturating_mul(8))
-            .copied()
-            .collect(heap)?;
-        Ok(bits)
+impl Part {
+    // The bits of this part of a buffer: those from its start on, and then those from the
+    // beginning.
+    fn of(self, heap: Global, buffer: &[bool]) -> Vec<bool> {
+        let start = self.start.saturating_mul(8);
+        let mut bits = buffer
+            .get(start..)
+            .unwrap_or(&[])
+            .to_vec(heap)
+            .unwrap_or(Vec::new(heap));
+        let _extended = bits.extend_from_slice(buffer);
+        bits.truncate(self.count.saturating_mul(8));
+        bits
     }
 }
 
 // All octets of a round in pieces of one length; the last may run over the end.
-fn pieces(heap: Global, round: usize, count: usize) -> anyhow::Result<Vec<Part>> {
-    let pieces = (0..round)
-        .step_by(count.max(1))
-        .map(|start| Part { start, count })
-        .collect(heap)?;
-    Ok(pieces)
+fn pieces(heap: Global, round: usize, count: usize) -> Vec<Part> {
+    let mut pieces = Vec::new(heap);
+    for start in (0..round).step_by(count.max(1)) {
+        let _pushed = pieces.push(Part { start, count });
+    }
+    pieces
+}
+
+// One part, and another behind it if there is one.
+fn one_or_two(heap: Global, one: Part, two: Option<Part>) -> Vec<Part> {
+    let mut parts = vec![in heap; one].unwrap_or(Vec::new(heap));
+    if let Some(two) = two {
+        let _pushed = parts.push(two);
+    }
+    parts
 }
 
 impl Trial {
-    // The parts that come, in turn; the first payload has `first` octets of a round.
-    fn parts(
-        self,
-        heap: Global,
-        random: &mut Random,
-        round: usize,
-        first: usize,
-    ) -> anyhow::Result<Vec<Part>> {
-        let payload = Part {
-            start: 0,
-            count: first,
-        };
-        let some = random.below(round).saturating_add(1);
-        let start = random.below(round);
-        let parts = match self.coming {
-            Coming::First | Coming::AfterAWipe => vec![in heap; payload]?,
-            Coming::FirstTwice => vec![in heap; payload, payload]?,
-            Coming::FirstAndNext => vec![in heap;
-                payload,
-                Part {
-                    start: first.checked_rem(round).unwrap_or(0),
-                    count: some
-                },
-            ]?,
-            Coming::FirstAndAll => vec![in heap;
-                payload,
-                Part {
-                    start,
-                    count: round
-                },
-            ]?,
-            Coming::OverTheEnd => {
-                vec![in heap;
-                    Part {
-                        start: round.saturating_sub(1),
-                        count: some
-                    },
-                    payload,
-                ]?
-            }
-            Coming::Elsewhere => vec![in heap; Part { start, count: some }]?,
-            Coming::InPieces => pieces(heap, round, round / 5 + 1)?,
-        };
-        Ok(parts)
-    }
-
     // A trial at a rate.
     pub(crate) fn draw(random: &mut Random, k: usize) -> Trial {
         Trial {
@@ -173,57 +137,104 @@ impl Trial {
         }
     }
 
-    // Takes symbols, and again after a wipe where the trial has one.
-    fn take<R: Tried>(
+    // The parts that come, in turn; the first payload has `first` octets of a round.
+    fn parts(self, heap: Global, random: &mut Random, round: usize, first: usize) -> Vec<Part> {
+        let payload = Part {
+            start: 0,
+            count: first,
+        };
+        let some = random.below(round).saturating_add(1);
+        let start = random.below(round);
+        let next = Part {
+            start: first.checked_rem(round).unwrap_or(0),
+            count: some,
+        };
+        let all = Part {
+            start,
+            count: round,
+        };
+        let last = Part {
+            start: round.saturating_sub(1),
+            count: some,
+        };
+        let elsewhere = Part { start, count: some };
+        let (one, two) = match self.coming {
+            Coming::InPieces => return pieces(heap, round, round / 5 + 1),
+            Coming::First | Coming::AfterAWipe => (payload, None),
+            Coming::FirstTwice => (payload, Some(payload)),
+            Coming::FirstAndNext => (payload, Some(next)),
+            Coming::FirstAndAll => (payload, Some(all)),
+            Coming::OverTheEnd => (last, Some(payload)),
+            Coming::Elsewhere => (elsewhere, None),
+        };
+        one_or_two(heap, one, two)
+    }
+
+    // A trial of blocks of these sizes, by a reading of this kind.
+    pub(crate) fn case(self, sizes: Sizes, kind: Kind) -> Case {
+        Case {
+            words: ["block", kind.word(), self.damage.word(), self.coming.word()],
+            numbers: [sizes.octets, sizes.check, self.k, 0],
+        }
+    }
+
+    // Takes symbols, and again after a wipe where the trial has one. Answers whether all were
+    // counted.
+    fn take<R: Tried>(self, hearing: &mut Hearing<'_, R>, start: usize, symbols: &[u8]) -> bool {
+        let counts = hearing.take(start, symbols);
+        if matches!(self.coming, Coming::AfterAWipe) {
+            let wiped = hearing.wipe();
+            return counts && wiped && hearing.take(start, symbols);
+        }
+        counts
+    }
+
+    // Takes what is heard of a part of the buffer.
+    fn hear_part<R: Tried>(
         self,
         hearing: &mut Hearing<'_, R>,
-        start: usize,
-        symbols: &[u8],
-        findings: &mut Findings,
-    ) -> anyhow::Result<()> {
-        let counts = hearing.take(start, symbols)?;
-        findings.expect("the count", counts);
-        if matches!(self.coming, Coming::AfterAWipe) {
-            hearing.wipe()?;
-            let counts = hearing.take(start, symbols)?;
-            findings.expect("the count after a wipe", counts);
-        }
-        Ok(())
+        random: &mut Random,
+        buffer: &[bool],
+        part: Part,
+    ) -> bool {
+        let heap = hearing.frame.heap;
+        let bits = part.of(heap, buffer);
+        let symbols = hear(heap, random, R::kind(), bits.as_slice(), self.damage);
+        self.take(hearing, part.start, symbols.as_slice())
     }
 
-    // Sends a report of chance, and takes what is heard of it, part after part. From one part to
-    // the next the weight does not fall.
-    pub(crate) fn hear<'a, R: Tried>(
+    // Takes part after part. From one to the next the weight does not fall.
+    fn hear_parts<R: Tried>(
         self,
-        frame: &'a Frame,
+        hearing: &mut Hearing<'_, R>,
         random: &mut Random,
-        findings: &mut Findings,
-    ) -> anyhow::Result<Hearing<'a, R>> {
-        let heap = frame.heap;
-        let sizes = frame.sizes;
-        let report: Vec<u8> = (0..sizes.octets).map(|_| random.octet()).collect(heap)?;
-        let sent = Sent::code(frame, report.as_slice(), findings)?;
-        let first = plan(sizes.octets, sizes.check, self.k)?;
-        let parts = self.parts(heap, random, sizes.round(), first)?;
-        let mut hearing = Hearing::<R>::open(frame)?;
+        buffer: &[bool],
+        parts: &[Part],
+    ) -> Option<&'static str> {
         let mut weight = 0;
-        for part in parts.iter() {
-            let bits = sent.part(heap, *part)?;
-            let symbols = hear(heap, random, R::kind(), bits.as_slice(), self.damage)?;
-            self.take(&mut hearing, part.start, symbols.as_slice(), findings)?;
-            let now = hearing.decode()?.weight;
-            findings.expect("the growth of the weight", weight <= now);
+        let mut grows = true;
+        let mut counts = true;
+        for part in parts {
+            counts = self.hear_part(hearing, random, buffer, *part) && counts;
+            let now = hearing.decode().weight;
+            grows = grows && weight <= now;
             weight = now;
         }
-        Ok(hearing)
+        differing(&[("the count", counts), ("the growth of the weight", grows)])
     }
-}
 
-// The columns of one of several orders: order R, order R backwards, or some other.
-pub(crate) fn draw_columns(random: &mut Random) -> [u8; 24] {
-    match random.below(4) {
-        0 => ORDER_R,
-        1 => backwards(),
-        _ => shuffled(random),
+    // Sends a report of chance, and takes what is heard of it; in what it differs, if in anything.
+    pub(crate) fn hear<R: Tried>(
+        self,
+        hearing: &mut Hearing<'_, R>,
+        random: &mut Random,
+    ) -> Option<&'static str> {
+        let frame = hearing.frame;
+        let sizes = frame.sizes;
+        let first = plan(sizes.octets, sizes.check, self.k).unwrap_or(0);
+        let sent = send(frame, random);
+        let parts = self.parts(frame.heap, random, sizes.round(), first);
+        let differs = self.hear_parts(hearing, random, sent.bits.as_slice(), parts.as_slice());
+        differing(&[("the buffer", sent.agree)]).or(differs)
     }
 }

@@ -8,8 +8,6 @@ ghost use Rattle.weighing.specs.Scales.{Scale};
 pub mod hard;
 pub mod level;
 pub mod soft;
-#[cfg(test)]
-mod tests;
 pub mod worst;
 
 // How weights add and compare. All calls answer by what the weights mean.

@@ -1,7 +1,7 @@
 // The book of a sheet: all takes as they were handed. What a place weighs is reckoned from them
 // when it is asked.
 use crate::second::readings::Kind;
-use std::alloc::{AllocError, Global};
+use std::alloc::Global;
 
 // A take: the place of its first symbol, and its symbols.
 #[derive(Drop)]
@@ -57,12 +57,11 @@ impl Book {
     }
 
     // Notes a take from an octet of the buffer on.
-    pub(crate) fn note(&mut self, start: usize, octets: &[u8]) -> Result<(), AllocError> {
+    pub(crate) fn note(&mut self, start: usize, octets: &[u8]) {
         let first = start.wrapping_mul(8);
-        let octets = octets.to_vec(self.heap)?;
+        let octets = octets.to_vec(self.heap).unwrap_or(Vec::new(self.heap));
         self.count = self.count.saturating_add(octets.len());
-        self.takes.push(Take { first, octets })?;
-        Ok(())
+        let _pushed = self.takes.push(Take { first, octets });
     }
 
     pub(crate) fn wipe(&mut self) {
@@ -83,9 +82,11 @@ impl Book {
     }
 
     // The sums of all places.
-    pub(crate) fn sums(&self) -> Result<Vec<Sums>, AllocError> {
-        (0..self.round)
-            .map(|place| self.sums_at(place))
-            .collect(self.heap)
+    pub(crate) fn sums(&self) -> Vec<Sums> {
+        let mut sums = Vec::new(self.heap);
+        for place in 0..self.round {
+            let _pushed = sums.push(self.sums_at(place));
+        }
+        sums
     }
 }

@@ -2,19 +2,19 @@
 use crate::second::division::check_bits;
 use crate::second::layout::Source;
 use crate::second::register::Cells;
-use std::alloc::{AllocError, Global};
+use std::alloc::Global;
 
 const VALUES: [u8; 8] = [1, 2, 4, 8, 16, 32, 64, 128];
 
 // The bits of octets, the lowest of each first.
-pub(crate) fn bits_of(heap: Global, octets: &[u8]) -> Result<Vec<bool>, AllocError> {
+pub(crate) fn bits_of(heap: Global, octets: &[u8]) -> Vec<bool> {
     let mut bits = Vec::new(heap);
     for octet in octets {
         for value in VALUES {
-            bits.push(octet & value != 0)?;
+            let _pushed = bits.push(octet & value != 0);
         }
     }
-    Ok(bits)
+    bits
 }
 
 fn octet_of(bits: &[bool]) -> u8 {
@@ -28,20 +28,19 @@ fn octet_of(bits: &[bool]) -> u8 {
 }
 
 // Octets of bits, the lowest of each first.
-pub(crate) fn octets_of(heap: Global, bits: &[bool]) -> Result<Vec<u8>, AllocError> {
-    bits.chunks(8).map(octet_of).collect(heap)
+pub(crate) fn octets_of(heap: Global, bits: &[bool]) -> Vec<u8> {
+    bits.chunks(8)
+        .map(octet_of)
+        .collect(heap)
+        .unwrap_or(Vec::new(heap))
 }
 
 // A message's bits: the report's and those of its check.
-pub(crate) fn message_of(
-    heap: Global,
-    report: &[u8],
-    check: usize,
-) -> Result<Vec<bool>, AllocError> {
-    let mut bits = bits_of(heap, report)?;
-    let field = check_bits(heap, bits.as_slice(), check)?;
-    bits.extend_from_slice(field.as_slice())?;
-    Ok(bits)
+pub(crate) fn message_of(heap: Global, report: &[u8], check: usize) -> Vec<bool> {
+    let mut bits = bits_of(heap, report);
+    let field = check_bits(heap, bits.as_slice(), check);
+    let _extended = bits.extend_from_slice(field.as_slice());
+    bits
 }
 
 // A coded message: what went into the register, the tail with it, and the four outputs of each
@@ -54,44 +53,53 @@ pub(crate) struct Coded {
 }
 
 impl Coded {
-    fn feed(&mut self, input: bool) -> Result<(), AllocError> {
-        self.inputs.push(input)?;
-        self.outputs.push(self.cells.outputs(input))?;
+    fn feed(&mut self, input: bool) {
+        let _pushed = self.inputs.push(input);
+        let _pushed = self.outputs.push(self.cells.outputs(input));
         self.cells = self.cells.after(input);
-        Ok(())
     }
 
     // Codes a message, and then the four bits of its tail, each the feedback of its moment.
-    pub(crate) fn of(heap: Global, message: &[bool]) -> Result<Coded, AllocError> {
+    pub(crate) fn of(heap: Global, message: &[bool]) -> Coded {
         let mut coded = Coded {
             inputs: Vec::new(heap),
             outputs: Vec::new(heap),
             cells: Cells::cleared(),
         };
         for bit in message {
-            coded.feed(*bit)?;
+            coded.feed(*bit);
         }
         for _ in 0..4 {
             let tail = coded.cells.feedback();
-            coded.feed(tail)?;
+            coded.feed(tail);
         }
-        Ok(coded)
+        coded
     }
 
     fn bit(&self, source: Source) -> bool {
-        self.outputs
-            .get(source.step)
-            .and_then(|outputs| outputs.get(source.output))
-            .copied()
-            .unwrap_or(false)
+        match self.outputs.get(source.step) {
+            Some(outputs) => outputs.get(source.output) == Some(&true),
+            None => false,
+        }
     }
 
-    // The buffer, as the list of its places has it.
-    pub(crate) fn buffer(&self, heap: Global, sources: &[Source]) -> Result<Vec<u8>, AllocError> {
-        let bits: Vec<bool> = sources
-            .iter()
-            .map(|source| self.bit(*source))
-            .collect(heap)?;
-        octets_of(heap, bits.as_slice())
+    // The bits of the buffer, as the list of its places has it.
+    pub(crate) fn buffer(&self, heap: Global, sources: &[Source]) -> Vec<bool> {
+        let mut bits = Vec::new(heap);
+        for source in sources {
+            let _pushed = bits.push(self.bit(*source));
+        }
+        bits
     }
+}
+
+// The bits of the buffer of a report.
+pub(crate) fn buffer_of(
+    heap: Global,
+    report: &[u8],
+    check: usize,
+    sources: &[Source],
+) -> Vec<bool> {
+    let message = message_of(heap, report, check);
+    Coded::of(heap, message.as_slice()).buffer(heap, sources)
 }

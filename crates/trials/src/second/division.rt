@@ -1,5 +1,5 @@
 // The check by long division of a list of bits, the highest term first.
-use std::alloc::{AllocError, Global};
+use std::alloc::Global;
 
 // The exponents of the terms of the polynomial for a check of so many bits.
 fn exponents(check: usize) -> &'static [usize] {
@@ -32,28 +32,27 @@ fn divide(bits: &mut [bool], check: usize) {
 
 // The last `check` bits of what is left when the polynomial has been taken out of the bits as often
 // as it goes.
-fn remainder(heap: Global, mut bits: Vec<bool>, check: usize) -> Result<Vec<bool>, AllocError> {
+fn remainder(heap: Global, mut bits: Vec<bool>, check: usize) -> Vec<bool> {
     divide(bits.as_mut_slice(), check);
     let quotient = bits.len().saturating_sub(check);
-    bits.iter().copied().skip(quotient).collect(heap)
+    bits.get(quotient..)
+        .unwrap_or(&[])
+        .to_vec(heap)
+        .unwrap_or(Vec::new(heap))
 }
 
 // The check of a report's bits: they are followed by as many zeros as the check has bits, and
 // divided.
-pub(crate) fn check_bits(
-    heap: Global,
-    report: &[bool],
-    check: usize,
-) -> Result<Vec<bool>, AllocError> {
-    let mut bits = report.to_vec(heap)?;
+pub(crate) fn check_bits(heap: Global, report: &[bool], check: usize) -> Vec<bool> {
+    let mut bits = report.to_vec(heap).unwrap_or(Vec::new(heap));
     for _ in 0..check {
-        bits.push(false)?;
+        let _pushed = bits.push(false);
     }
     remainder(heap, bits, check)
 }
 
 // Whether the polynomial divides the bits of report and check together.
-pub(crate) fn divides(heap: Global, message: &[bool], check: usize) -> Result<bool, AllocError> {
-    let rest = remainder(heap, message.to_vec(heap)?, check)?;
-    Ok(rest.iter().all(|bit| !*bit))
+pub(crate) fn divides(heap: Global, message: &[bool], check: usize) -> bool {
+    let rest = remainder(heap, message.to_vec(heap).unwrap_or(Vec::new(heap)), check);
+    !rest.contains(&true)
 }

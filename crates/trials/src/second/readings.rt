@@ -1,6 +1,6 @@
 // The three readings over one notion: an octet is a level, whose sign is the bit that it favours.
 
-#[derive(Clone, Copy, Debug, PartialEq)]
+#[derive(Clone, Copy)]
 pub(crate) enum Kind {
     Hard,
     Soft,
@@ -8,6 +8,14 @@ pub(crate) enum Kind {
 }
 
 impl Kind {
+    pub(crate) fn word(self) -> &'static str {
+        match self {
+            Kind::Hard => "hard",
+            Kind::Soft => "soft",
+            Kind::Worst => "worst",
+        }
+    }
+
     // The level of an octet, if it is a symbol: a hard bit has level 1 or -1, and 0 is missing.
     fn level(self, octet: u8) -> Option<i64> {
         match self {

@@ -2,7 +2,7 @@ use Rattle.std.proofs.Common.{◌≡◌, ℕ, ◌+◌, List, ◌++◌, Ok, Err, 
 use Rattle.std.proofs.lemmas.List.{drop_all, take_all}
 use Rattle.sender.specs.declared.passages.PassageRefusal.{PassageRefusal}
 use Rattle.sender.specs.declared.passages.PassageRefusal.TheVariants.{Count, Short}
-use Rattle.sender.specs.Passages.{Guard, MakesSender, Begins, Copies, held, passing}
+use Rattle.sender.specs.Passages.{Guard, MakesSender, Begins, Copies, held}
 use Rattle.sender.specs.Sendings.{Sending, made, confirmed, given_up, none, next, OwnBuffer, written, asked_of}
 use Rattle.sender.proofs.Rounds.{sends_in_rounds, sending_sent}
 use Rattle.sender.proofs.sendings.short_sending.Goals as goal
@@ -43,13 +43,13 @@ returns c =
     let cursor' = c.give_up.new.self.0 in
     let stands : cursor ≡ 3 = (sends_in_rounds 1 4 buffer cursor target' 3 after).stands in
     let lost = (rw c.unwrap-2.ensures at c.copy-2.ensures.does).1.0 in
-    let at : g' ≡ passing 1 4 3 3 = begun' ∙ ap (λ k. passing 1 4 k k) stands in
+    let at : (g'.standing ≡ 3) × (g'.round ≡ 8) = (ap (λ x. x.standing) begun' ∙ stands, ap (λ x. x.round) begun') in
     let sending : Sending 1 4 buffer cursor' target' 3 = given_up after (record { g = g'; begun = begun'; copied = tried }) cursor' c.give_up.ensures in
     record {
       sending = sending;
       refused = rw idle.0 (refl, tt, tt);
       kept = sending_sent 1 4 buffer cursor' target' 3 sending;
-      given_up = rw (ap (λ x. x.cursor) at, ap (λ x. x.round) at, drop_all 2 c.args.given_up.now (search rules)) at lost;
+      given_up = rw (at.0, at.1, drop_all 2 c.args.given_up.now (search rules)) at lost;
       size = (made_so.1.0, made_so.1.1);
       stands = (sends_in_rounds 1 4 buffer cursor' target' 3 sending).stands;
     }

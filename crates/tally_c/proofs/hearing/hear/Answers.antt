@@ -16,4 +16,4 @@ returns g c =
     heard _ (shape c.args.columns.now) c.args.start c.args.symbols.now opening (rw taken at c.take.ensures)
     c.args.target.now c.decode.new.target (contents c.args.scratch.now) (contents c.decode.new.scratch)
     c.decode.result c.map_err-4.result
-    (rw same at c.in_ok-order.order.each) c.requires c.decode.ensures.does (search rules)
+    (rw same at c.in_ok-order.order.each) c.decode.ensures.does (search rules)
