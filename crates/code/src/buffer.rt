@@ -6,7 +6,7 @@ ghost use Rattle.code.specs.Rows.{IsBand, cell, row_output};
 
 use crate::Order;
 use crate::rows::Row;
-use block::{MOST_BLOCK_OCTETS, bit_of, octet};
+use block::{bit_of, octet};
 use std::array;
 
 // The rows of a block of `n` octets, their outputs 2 to 4 each side by side, and the order of the
@@ -40,11 +40,14 @@ fn output_of(row: Row, number: usize) -> u8
     }
 }
 
-// Output `number` of all rows, side by side.
-pub(crate) fn band_of(rows: &[Row; MOST_BLOCK_OCTETS], number: usize) -> [u8; MOST_BLOCK_OCTETS]
-    ensures { IsBand number most_block_octets rows.now result }
+// Fills a band with output `number` of all rows, side by side.
+pub(crate) fn fill_band(rows: &[Row], number: usize, band: &mut [u8])
+    requires { length band.old ≡ length rows.now }
+    ensures { IsBand number (length rows.now) rows.now band.new }
 {
-    array::from_fn(|b| output_of(rows[b], number))
+    for (b, octet) in band.iter_mut().enumerate() {
+        *octet = output_of(rows[b], number);
+    }
 }
 
 // The octet of bit `i` of eight octets, from octet `row` on.

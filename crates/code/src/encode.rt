@@ -5,7 +5,7 @@ ghost use Rattle.code.specs.Calls.{Encodes, encode_case, encoded_as};
 ghost use Rattle.code.specs.Shapes.{shape_with};
 
 use crate::Order;
-use crate::buffer::{CodedBlock, band_of};
+use crate::buffer::{CodedBlock, fill_band};
 use crate::message::Message;
 use crate::rows::Row;
 use block::{MOST_BLOCK_OCTETS, Size, SizeRefusal};
@@ -40,14 +40,22 @@ fn encode_block(size: Size, report: &[u8], order: &Order, buffer: &mut [u8])
 {
     let n = size.block_octets();
     let mut rows = [Row::default(); MOST_BLOCK_OCTETS];
-    Message::new(size, report).code(&mut rows[..n]);
+    let rows = &mut rows[..n];
+    Message::new(size, report).code(rows);
+    let mut v2 = [0; MOST_BLOCK_OCTETS];
+    let mut v3 = [0; MOST_BLOCK_OCTETS];
+    let mut v4 = [0; MOST_BLOCK_OCTETS];
+    // the rows of the block alone, so that a short report is not charged for the longest one's
+    fill_band(rows, 2, &mut v2[..n]);
+    fill_band(rows, 3, &mut v3[..n]);
+    fill_band(rows, 4, &mut v4[..n]);
     let block = CodedBlock {
         order,
         n,
-        rows: &rows,
-        v2: &band_of(&rows, 2),
-        v3: &band_of(&rows, 3),
-        v4: &band_of(&rows, 4),
+        rows,
+        v2: &v2[..n],
+        v3: &v3[..n],
+        v4: &v4[..n],
     };
     block.fill(buffer);
 }

@@ -1,6 +1,6 @@
 // Passages: one begins, copies the next octets, and is confirmed or given up. Only a confirmed one
 // moves its sender.
-ghost use Rattle.std.specs.Prelude.{◌≡◌, ◌+◌, ◌%◌, ◌<◌, length};
+ghost use Rattle.std.specs.Prelude.{◌≡◌, ◌+◌, ◌*◌, ◌%◌, ◌<◌, ◌≤◌, length};
 ghost use Rattle.sender.specs.Passages.{Begins, Confirms, Copies, GivesUp, held, passage_case};
 ghost use Rattle.sender.specs.Passages.{sent};
 
@@ -49,18 +49,29 @@ impl Drop for Passage<'_> {
     }
 }
 
-// Fills the target from octet `start` of the round on, octet 0 after the last; answers the octet
-// behind.
+// Octet `p` of a round of so many, of which octet 0 comes again behind the last: by a comparison,
+// since at most one round has gone by.
+fn octet_in_round(p: usize, round: usize) -> usize
+    requires { p < 2 * round }
+    ensures { result ≡ p % round }
+{
+    if p < round { p } else { p - round }
+}
+
+// Fills the target, which is at most a round long, from octet `start` of the round on, octet 0
+// after the last; answers the octet behind. It goes in two pieces, up to the round's end and from
+// its beginning, so that no octet costs more than its copy.
 fn copy_round(round: &[u8], start: usize, target: &mut [u8]) -> usize
-    requires { 0 < length round.now }
+    requires { (0 < length round.now) × (length target.old ≤ length round.now) }
     ensures wrote { target.new ≡ sent round.now (length round.now) start (length target.old) }
     ensures behind { result ≡ (start + length target.old) % length round.now }
 {
     let first = start % round.len();
-    for (i, octet) in target.iter_mut().enumerate() {
-        *octet = round[(first + i) % round.len()];
-    }
-    (first + target.len()) % round.len()
+    let behind = octet_in_round(first + target.len(), round.len());
+    let (ahead, over) = target.split_at_mut(target.len().min(round.len() - first));
+    ahead.copy_from_slice(&round[first..first + ahead.len()]);
+    over.copy_from_slice(&round[..over.len()]);
+    behind
 }
 
 impl<'a> Passage<'a> {

@@ -1,5 +1,5 @@
 -- Every call of a sheet keeps its tally as its book has it. Assumes nothing.
-use Rattle.std.proofs.Common.{◌≡◌, ℕ, ◌+◌, ◌*◌, ◌<◌, ◌≤◌, Bool, true, List, [], ◌∷◌, ◌++◌, fold, map, length, get_or, take, Ok, Err, None, Result, sym, refl, ap, ◌∙◌, subst, arith, rules}
+use Rattle.std.proofs.Common.{◌≡◌, ℕ, ◌+◌, ◌*◌, ◌<◌, ◌≤◌, Bool, true, List, [], ◌∷◌, fold, map, length, get_or, take, Ok, Err, None, Result, sym, refl, ap, ◌∙◌, subst, arith, rules}
 use Rattle.std.proofs.lemmas.List.Sums.{fold-append}
 use Rattle.std.proofs.lemmas.List.{get_or-take, length-take, take-map}
 use Rattle.std.proofs.lemmas.List.FromFn.{length-map-range_with_len}

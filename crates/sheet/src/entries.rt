@@ -1,6 +1,5 @@
 // The entries of a tally: clearing them, and laying symbols on them.
-ghost use Rattle.std.specs.Prelude.{◌≡◌, ℕ, ◌<◌, ◌≤◌, Bool, length};
-ghost use Rattle.block.specs.Sizes.{most_places};
+ghost use Rattle.std.specs.Prelude.{◌≡◌, ℕ, ◌+◌, ◌<◌, ◌≤◌, Bool, length};
 ghost use Rattle.search.specs.Weights.{entry_sums};
 ghost use Rattle.sheet.specs.Books.{unlawful};
 ghost use Rattle.sheet.specs.Laying.{LaysOctet, LaysOn};
@@ -41,14 +40,23 @@ fn lay_octet<R: Reading>(entry: &mut Entry<R::Value>, octet: u8)
     }
 }
 
-// Lays the symbols that octets read as on places, from place `first` on: behind the last place
-// comes the first.
-pub(crate) fn lay<R: Reading>(places: &mut [Entry<R::Value>], first: usize, octets: &[u8])
-    requires { (first < length places.old) × (length places.old ≤ most_places) }
+// Lays the symbols that octets read as on a row of places, from place `first` on.
+fn lay_row<R: Reading>(places: &mut [Entry<R::Value>], first: usize, octets: &[u8])
+    requires { first + length octets.now ≤ length places.old }
     ensures { LaysOn R.Reading.alphabet R.Weighing.scale first octets.now places.old places.new }
 {
     for (i, octet) in octets.iter().enumerate() {
-        let place = (first + i) % places.len();
-        lay_octet::<R>(&mut places[place], *octet);
+        lay_octet::<R>(&mut places[first + i], *octet);
     }
+}
+
+// Lays the symbols that octets read as on places, from place `first` on: behind the last place
+// comes the first. There are at most as many octets as places, so they go in two rows.
+pub(crate) fn lay<R: Reading>(places: &mut [Entry<R::Value>], first: usize, octets: &[u8])
+    requires { (first < length places.old) × (length octets.now ≤ length places.old) }
+    ensures { LaysOn R.Reading.alphabet R.Weighing.scale first octets.now places.old places.new }
+{
+    let (ahead, over) = octets.split_at(octets.len().min(places.len() - first));
+    lay_row::<R>(places, first, ahead);
+    lay_row::<R>(places, 0, over);
 }

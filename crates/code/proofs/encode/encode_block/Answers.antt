@@ -1,10 +1,10 @@
-use Rattle.std.proofs.Common.{◌≡◌, ◌≤◌, length, rules, subst, sym, ap, ◌∙◌, arith}
+use Rattle.std.proofs.Common.{◌≡◌, subst, sym, ap, ◌∙◌, arith}
 use Rattle.block.specs.Checks.{report_message}
 use Rattle.block.specs.Sizes.{block_octets}
 use Rattle.code.specs.Places.{buffer_of}
 use Rattle.code.specs.Register.{coded}
 use Rattle.code.specs.Rows.{AreRows}
-use Rattle.code.proofs.Rowed.{filled_right, rows_before}
+use Rattle.code.proofs.Rowed.{filled_right}
 use Rattle.code.proofs.encode.encode_block.Goals as goal
 
 pub returns : goal.returns
@@ -19,6 +19,5 @@ returns c =
     let same : told ≡ steps = λ i. coded (report_message (made.report i) (made.size i).octets (made.size i).check) in
     let count : block_octets c.new.result.size.octets c.new.result.size.check ≡ n = (λ i. block_octets (made.size i).octets (made.size i).check) ∙ sym c.block_octets-n.ensures in
     let are : AreRows steps n rows = subst (λ s. AreRows s n rows) same (subst (λ k. AreRows told k rows) count c.code.ensures) in
-    let long : n ≤ length rows = search (rules, arith) in
-    filled_right _ steps (rows_before steps rows _ n long are) c.fill.new.buffer (omega arith) (omega arith) c.fill.ensures
+    filled_right _ steps are c.fill.new.buffer (omega arith) (omega arith) c.fill.ensures
     ∙ ap (λ k. buffer_of order k steps) c.block_octets-n.ensures

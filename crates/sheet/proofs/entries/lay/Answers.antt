@@ -1,12 +1,16 @@
-use Rattle.std.proofs.Common.{◌+◌, ◌%◌, length, ap, arith, rules}
-use Rattle.std.proofs.lemmas.Nat.{mod_below}
-use Rattle.sheet.proofs.Laying.{laying_more}
+use Rattle.std.proofs.Common.{drop, subst, take}
+use Rattle.sheet.specs.Laying.{LaysOn}
+use Rattle.sheet.proofs.Laying.{two_rows}
 use Rattle.sheet.proofs.entries.lay.Goals as goal
 
-pub loop-i-preserved : goal.loop-i-preserved
-loop-i-preserved g c =
-    let places = c.loop-i.places in
-    let place = (c.args.first + c.loop-i.i) % length places in
-    laying_more g.R.Reading.alphabet g.R.Weighing.scale c.args.first c.args.octets.now c.args.places.now c.loop-i.i place places
-    c.lay_octet.new.entry c.index-places-place.result c.loop-i-test.true c.loop-i.invariant (mod_below _ _ (omega (arith, c.loop-i.invariant.long)))
-    (ap (λ n. (c.args.first + c.loop-i.i) % n) c.loop-i.invariant.long) (search rules)
+pub returns : goal.returns
+returns g c =
+    let a = g.R.Reading.alphabet in
+    let s = g.R.Weighing.scale in
+    let octets = c.args.octets.now in
+    let before = c.args.places.now in
+    let mid = c.lay_row.new.places in
+    let after = c.lay_row-2.new.places in
+    let ahead : LaysOn a s c.args.first (take c.min.result octets) before mid = subst (λ xs. LaysOn a s c.args.first xs before mid) c.split_at.ensures.front c.lay_row.ensures in
+    let over : LaysOn a s 0 (drop c.min.result octets) mid after = subst (λ xs. LaysOn a s 0 xs mid after) c.split_at.ensures.back c.lay_row-2.ensures in
+    two_rows a s c.args.first c.min.result octets before mid after c.requires.0 c.min.ensures c.lay_row.auto.places ahead over
