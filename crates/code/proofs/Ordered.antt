@@ -1,9 +1,11 @@
 -- Laws of column orders. Assumes nothing.
 use Rattle.std.proofs.Common.{Bool, Decides, MatchBool, ◌≡◌, ℕ, zero, suc, ◌+◌, ◌<◌, ◌≤◌, true, false, cond, ◌&&◌, eqb, ltb, List, [], ◌∷◌, length, get_or, sym, refl, ap, ◌∙◌, inl, inr, suc-le-suc, zero-le, le_of_suc-le-suc, not-suc-le-zero, one-add, arith}
 use Rattle.std.proofs.lemmas.Bool.{eq-eqb, ne_eqb, eqb-true, ltb-true, lt-ltb, and_parts, and_from, cases_eq, cases_Bool}
-use Rattle.std.specs.List.{AllWithin, HoldsAt, count_by}
-use Rattle.std.proofs.lemmas.List.Sums.{sum_by-cons}
+use Rattle.std.specs.List.{AllWithin, HoldsAt}
 use Rattle.code.specs.Columns.{all_below, count_of, each_once, index_of, is_order}
+
+pub count_here : (a c : ℕ) (cs : List ℕ) → c ≡ a → count_of a (c ∷ cs) ≡ 1 + count_of a cs
+count_here a c cs e = ap (λ b. cond b 1 0 + count_of a cs) (eq-eqb c a e)
 
 pub count_not_here : (a c : ℕ) (cs : List ℕ) → (c ≡ a → ⊥) → count_of a (c ∷ cs) ≡ 0 + count_of a cs
 count_not_here a c cs d = ap (λ b. cond b 1 0 + count_of a cs) (ne_eqb c a d)
@@ -25,11 +27,6 @@ counted_index a (c ∷ cs) h =
           let rest = counted_index a cs (omega (arith, count_not_here a c cs d)) in
           (omega (arith, later, rest.0), ap (λ i. get_or (c ∷ cs) i 0) (later ∙ one-add (index_of a cs)) ∙ rest.1)
     ]
-
--- counting is the library's
-pub counts : (a : ℕ) (cs : List ℕ) → count_by (λ c. eqb c a) cs ≡ count_of a cs
-counts a [] = refl
-counts a (c ∷ cs) = sum_by-cons (λ x. cond (eqb x a) 1 0) c cs ∙ ap (λ n. cond (eqb c a) 1 0 + n) (counts a cs)
 
 pub each_once_at : (n : ℕ) (cs : List ℕ) → each_once n cs ≡ true → (a : ℕ) → a < n → count_of a cs ≡ 1
 each_once_at zero cs all a h = absurd (not-suc-le-zero h)

@@ -30,11 +30,18 @@ pub struct Order {
     ghost each: { is_order columns ≡ true },
 }
 
-// How often `column` stands among the numbers.
+// How often `column` stands among the numbers. A loop, since the compiler compares many numbers at
+// once in it, and one by one in a chain of `filter` and `count`.
 fn count(numbers: &[u8], column: u8) -> usize
     ensures { result ≡ count_of column numbers.now }
 {
-    numbers.iter().filter(|number| **number == column).count()
+    let mut n = 0;
+    for number in numbers {
+        if *number == column {
+            n += 1;
+        }
+    }
+    n
 }
 
 // Whether each of 0 to 23 stands among the numbers once.
